@@ -1,18 +1,22 @@
 //! A cursor that changes a map.
-ghost use Rattle.std.specs.Prelude.{◌≡◌, ◌++◌, ◌∷◌, [], List, None, Ok, OnErr, OnOk, IfOk, IfSome, Some, false, slice_get, true};
+ghost use Rattle.std.specs.Prelude.{◌≡◌, ◌++◌, ◌∷◌, [], List, None, Ok, OnErr, OnOk, IfOk, IfSome, Some, false, filter, not, slice_get, true};
 ghost use Rattle.std.specs.Borrow.{sem};
 ghost use Rattle.std.specs.Option.{option_copied_mut, option_map};
 ghost use Rattle.art_nodes.specs.declared.pointers.OpaqueNodePtr.{OpaqueNodePtr as Pointer};
+ghost use Rattle.art_tree.specs.Entries.{entries_of};
 ghost use Rattle.art_tree.specs.Refusals.{texts_of};
 ghost use Rattle.art_map.specs.MapCursors.{IsAt, LendsCursorValue, cursor_tree};
 ghost use Rattle.art_map.specs.Memory.{RemovesEachInRoom};
+ghost use Rattle.art_map.specs.Ranges.{is_from};
 ghost use Rattle.art_map.specs.Shrinking.{NeedsNode};
 
-use crate::cursor::{leaf_behind, remove_at};
+use crate::cursor::{cut_at, leaf_behind, remove_at};
+use crate::map::ranges::start_of;
 use art_arena::LeafPtr;
 use art_bytes::AsBytes;
 use art_tree::ArtTree;
 use std::alloc::AllocError;
+use std::ops::Bound;
 
 /// A place in a tree `T`, at a leaf `L` or behind the last one. Callers name it [`CursorMut`].
 #[derive(Drop)]
@@ -52,6 +56,30 @@ pub type CursorMut<'a, K, V, const PREFIX_LEN: usize> = CursorOver<
 >;
 
 impl<'a, K: AsBytes, V, const PREFIX_LEN: usize> CursorMut<'a, K, V, PREFIX_LEN> {
+    /// A cursor in a tree, as [`cursor_mut`](crate::ArtMap::cursor_mut) makes it of a map: it then holds the
+    /// caller's own reference, so a proof knows what the tree is once the cursor is gone, and of a map by
+    /// [`tree_mut`](crate::ArtMap::tree_mut) too. Costs as much.
+    ///
+    /// (from crates/art_map_tests/src/map/cursor_callers.rt)
+    /// ```rust
+    /// let mut cursor = CursorMut::in_tree(tree, Bound::Included(start));
+    /// cursor.remove()
+    /// ```
+    pub fn in_tree<Q: AsBytes>(
+        tree: &'a mut ArtTree<K, V, PREFIX_LEN>,
+        start: Bound<&Q>,
+    ) -> CursorMut<'a, K, V, PREFIX_LEN>
+        ensures same_tree { (cursor_tree result).ghost_name ≡ tree.entry.ghost_name }
+        ensures unchanged { (cursor_tree result).now ≡ tree.old }
+        ensures at_start { IsAt K.text result
+            (filter (λ entry. not (is_from Q.text start.entry (K.text entry.0))) (entries_of K.text tree.old.arena))
+            (filter (λ entry. is_from Q.text start.entry (K.text entry.0)) (entries_of K.text tree.old.arena)) }
+    {
+        let (side, key) = start_of(start);
+        let leaf = cut_at(&*tree, side, key);
+        CursorOver { tree, leaf }
+    }
+
     /// The entry at the cursor, or None behind the last one. Takes constant time and no memory.
     pub fn peek(&self) -> Option<(&K, &V)>
         ensures { (before after : List (K × V)) → IsAt K.text self.now before after →

@@ -7,7 +7,7 @@ mod comparing;
 mod ends;
 pub(crate) mod laws;
 mod many_entries;
-mod ranges;
+pub(crate) mod ranges;
 mod reading;
 
 use crate::view::{EntryList, MapView, ViewOf};

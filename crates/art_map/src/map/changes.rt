@@ -171,10 +171,11 @@ where
     /// The start need not be a key of the map. The map ends with the entries that are left in its tree.
     /// Costs as much as [`lower_bound`](Self::lower_bound). Takes no memory.
     ///
-    /// See [`CursorMut`] for an example.
+    /// What the map is afterwards a proof knows by [`CursorMut::in_tree`]. See [`CursorMut`] for an example.
     pub fn cursor_mut<Q: AsBytes>(&mut self, start: Bound<&Q>) -> CursorMut<'_, K, V, PREFIX_LEN>
         ensures* writes_back { sem 𝓛 (LendsTree K.row V.row PREFIX_LEN.row S.row K.text K.is_key
             S.seen self.entry (cursor_tree result)) }
+        ensures entries { entries_of K.text (cursor_tree result).now.arena ≡ S.entries self.old }
         ensures at_start { IsAt K.text result
             (filter (λ entry. not (is_from Q.text start.entry (K.text entry.0))) (S.entries self.old))
             (filter (λ entry. is_from Q.text start.entry (K.text entry.0)) (S.entries self.old)) }

@@ -12,6 +12,7 @@ returns g c =
       (refl, λ w. refl),
       record {
         writes_back = tt;
+        entries = seen;
         at_start = split-from text tree.arena c.start_of-side.result.0 c.start_of-side.result.1.now (is_from g.Q.AsBytes.text c.args.start) c.start_of-side.ensures (option_map slab_key c.cut_at-leaf.result) c.cut_at-leaf.ensures (g.S.ShowsMap.entries c.args.self.now) seen;
         tree = fact-seen g.S.ViewOf.seen g.S.ShowsMap.memory (IsTrueOfTrees text) g.met.S.ShowsMap.memory_seen tree tree c.args.self.now c.self.view_is Unchanged refl;
       },
