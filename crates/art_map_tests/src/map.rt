@@ -1,6 +1,7 @@
 //! Callers of maps and sets.
 mod ascending_entries;
 mod changed_prices;
+mod cursor_callers;
 mod entry_callers;
 mod extended_lists;
 mod iterator_callers;
