@@ -15,7 +15,7 @@ use Rattle.art_tree.specs.Refusals.{texts_of}
 use Rattle.art_map.specs.Entries.{entry_with, entries_with_value}
 use Rattle.art_routes.specs.Keys.{IsKey, key_text, network_of, routes_of, last_up_to}
 use Rattle.art_routes.specs.Networks.{Block, IsNetwork, network_order}
-use Rattle.art_routes.specs.Tables.{AreInOrder, put_route, value_of, with_value, without_route}
+use Rattle.art_routes.specs.Tables.{AreInOrder, put_route, value_of, routes_with_value, without_route}
 use Rattle.art_routes.proofs.KeyLemmas.{back, key_is, key_order}
 
 -- pairs in a list that begins with one more
@@ -97,7 +97,7 @@ module _ {V : Type 0} where
   with-keys (entry ∷ entries) x value all =
       All-cons (λ e. IsKey e.0) (entry.0, cond (pointwise nat_eq entry.0 x) value entry.1) (entries_with_value itself entries x value) (here entry entries all) (with-keys entries x value (later entry entries all))
 
-  with-read : (entries : List (List ℕ × V)) (x : List ℕ) (value : V) → AreKeys entries → IsKey x → routes_of (entries_with_value itself entries x value) ≡ with_value (routes_of entries) (network_of x) value
+  with-read : (entries : List (List ℕ × V)) (x : List ℕ) (value : V) → AreKeys entries → IsKey x → routes_of (entries_with_value itself entries x value) ≡ routes_with_value (routes_of entries) (network_of x) value
   with-read [] x value all is = refl
   with-read (entry ∷ entries) x value all is =
       let same = same-read entry.0 x (here entry entries all) is in
@@ -151,8 +151,8 @@ module _ {V : Type 0} where
     pub put-at : (value : V) → routes_of (put_entry itself entries (x, value)) ≡ put_route routes network value
     put-at value = put-read entries x value all x-is ∙ ap (λ n. put_route (routes_of entries) n value) key-read ∙ ap (λ rs. put_route rs network value) view_is
 
-    pub with-at : (value : V) → routes_of (entries_with_value itself entries x value) ≡ with_value routes network value
-    with-at value = with-read entries x value all x-is ∙ ap (λ n. with_value (routes_of entries) n value) key-read ∙ ap (λ rs. with_value rs network value) view_is
+    pub with-at : (value : V) → routes_of (entries_with_value itself entries x value) ≡ routes_with_value routes network value
+    with-at value = with-read entries x value all x-is ∙ ap (λ n. routes_with_value (routes_of entries) n value) key-read ∙ ap (λ rs. routes_with_value rs network value) view_is
 
     pub without-at : routes_of (without_text itself entries x) ≡ without_route routes network
     without-at =

@@ -6,7 +6,7 @@ use Rattle.art_tree.specs.Entries.{entries_of}
 use Rattle.art_map.specs.MapLending.{seen_row}
 use Rattle.art_map.specs.contracts.view.EntryList as list
 use Rattle.art_routes.specs.Networks.{Block}
-use Rattle.art_routes.specs.Tables.{with_value}
+use Rattle.art_routes.specs.Tables.{routes_with_value}
 use Rattle.art_routes.specs.contracts.table.TableOver.{the_row}
 
 -- the type of a table of these values, as the logic names it
@@ -18,4 +18,4 @@ table_row V =
 -- a table ends with the value that was left behind the reference in the route to this network, or unchanged
 abbrev pub LendsRoute : (V : RattleType) → MutBor (List (Block × V.Denot)) → Block → Option (MutBor V.Denot) → Fml
 LendsRoute V table network result =
-    LendsSo (table_row V) V table result (λ now value. OnSome result (now ≡ with_value table.now network value)) (λ now. now ≡ table.now)
+    LendsSo (table_row V) V table result (λ now value. OnSome result (now ≡ routes_with_value table.now network value)) (λ now. now ≡ table.now)

@@ -27,8 +27,8 @@ module _ {V : Type 0} where
       match_ordering (network_order network other.0) ((network, value) ∷ other ∷ routes) ((network, value) ∷ routes) (other ∷ put_route routes network value)
 
   -- the routes, of which the one to this network has this value
-  abbrev pub with_value : List (Block × V) → Block → V → List (Block × V)
-  with_value routes network value = map (λ route. (route.0, if is_eq (network_order route.0 network) then value else route.1)) routes
+  abbrev pub routes_with_value : List (Block × V) → Block → V → List (Block × V)
+  routes_with_value routes network value = map (λ route. (route.0, if is_eq (network_order route.0 network) then value else route.1)) routes
 
   -- the routes without the one to this network
   abbrev pub without_route : List (Block × V) → Block → List (Block × V)
