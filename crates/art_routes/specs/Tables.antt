@@ -1,5 +1,5 @@
 -- A table as the list of its routes, each a network and its value, in the order of the networks.
-use Rattle.std.specs.Prelude.{◌≡◌, ◌≤◌, true, false, not, List, [], ◌∷◌, All, AllPairs, Contains, Option, Some, None, filter, map, reverse, if◌then◌else◌}
+use Rattle.std.specs.Prelude.{◌≡◌, ◌≤◌, true, false, not, List, [], ◌∷◌, ◌++◌, All, AllPairs, Contains, Option, Some, None, filter, map, reverse, if◌then◌else◌}
 use Rattle.std.specs.Borrow.{Bor}
 use Rattle.std.specs.Ordering.{is_eq, is_ge, is_gt, match_ordering}
 use Rattle.std.specs.declared.cmp.Ordering.TheVariants.{Less}
@@ -80,3 +80,10 @@ module _ {V : Type 0} where
   abbrev pub put_routes : List (Block × V) → List (Block × V) → List (Block × V)
   put_routes routes [] = routes
   put_routes routes (more ∷ others) = put_routes (put_route routes more.0 more.1) others
+
+  -- this is one of the routes, and of those before it, put in turn, none is to its network
+  pub record IsFirstToNetwork (routes : List (Block × V)) (route : Block × V) : Type 0 where
+    pub before : List (Block × V)
+    pub rest : List (Block × V)
+    pub listed : routes ≡ before ++ route ∷ rest
+    pub no_route : value_of (put_routes [] before) route.0 ≡ None

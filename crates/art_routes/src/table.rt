@@ -1,11 +1,11 @@
 //! Tables of routes.
-ghost use Rattle.std.specs.Prelude.{◌≡◌, ◌≢◌, ◌↔◌, ◌⊎◌, ◌<◌, ◌≤◌, ◌^◌, [], All, Contains, IfErr, IfOk, IfSome, IsTrue, MatchOption, None, OnErr, OnOk, length};
+ghost use Rattle.std.specs.Prelude.{◌≡◌, ◌≢◌, ◌↔◌, ◌⊎◌, ◌<◌, ◌≤◌, ◌^◌, [], All, IfErr, IfOk, IfSome, IsTrue, MatchOption, None, OnErr, OnOk, length};
 ghost use Rattle.std.specs.Borrow.{sem};
 ghost use Rattle.std.specs.Option.{option_copied, option_copied_mut, option_map};
 ghost use Rattle.art_routes.specs.Keys.{IsKey, last_up_to as last_route_up_to, route_read};
 ghost use Rattle.art_routes.specs.Lending.{LendsRoute};
 ghost use Rattle.art_routes.specs.Networks.{IsNetwork, address_of};
-ghost use Rattle.art_routes.specs.Tables.{AreInOrder, at_or_after, behind, covered as covered_routes, covering as covering_routes, IsLongest, IsLongestOver, IsShortest, NoneContains, NoneCovers, put_route, put_routes, route_now, value_of, without_route};
+ghost use Rattle.art_routes.specs.Tables.{AreInOrder, at_or_after, behind, covered as covered_routes, covering as covering_routes, IsFirstToNetwork, IsLongest, IsLongestOver, IsShortest, NoneContains, NoneCovers, put_route, put_routes, route_now, value_of, without_route};
 
 use crate::address::{Address, number_of, shared_bits};
 use crate::covering::{Covering, CoveringOver};
@@ -342,8 +342,8 @@ impl<V: Drop> RouteTable<V> {
     /// A table of these routes, which may stand in any order. Of two to one network the later stays, and the
     /// other is dropped.
     ///
-    /// Only an allocation failure refuses a route: it is returned, and the others are dropped. Costs as much
-    /// as an [`insert`](Self::insert) of each.
+    /// Only an allocation failure refuses a route, and only the first to its network: it is returned, and the
+    /// others are dropped. Costs as much as an [`insert`](Self::insert) of each.
     ///
     /// (from tests/art_routes/tests.rt.txt)
     /// ```rust
@@ -358,7 +358,7 @@ impl<V: Drop> RouteTable<V> {
     ) -> Result<RouteTable<V>, RefusedRoute<V>>
         ensures routes { IfOk result (λ table. table ≡ put_routes [] entries.items) }
         ensures route_back { IfErr result
-            (λ refused. Contains entries.items (refused.network, refused.value)) }
+            (λ refused. IsFirstToNetwork entries.items (refused.network, refused.value)) }
     {
         let mut table = RouteTable::new(alloc);
         let mut rest = entries.into_iter();
