@@ -207,7 +207,8 @@ impl<V> RouteTable<V> {
     }
 
     /// Reserves memory for `additional` more routes: as many inserts to new networks, and removals, take
-    /// none. The routes are unchanged, also after a failure.
+    /// none. The routes are unchanged, also after a failure. The clause sees the list of routes, which shows
+    /// no memory.
     pub fn reserve(&mut self, additional: usize) -> Result<(), AllocError>
         ensures same_routes { self.new ≡ self.old }
     {
@@ -258,8 +259,8 @@ impl<V> RouteTable<V> {
     /// IPv4 and IPv6 never match each other.
     ///
     /// Each step is one descent. Another follows only where the route before the address does not contain
-    /// it, with fewer bits of the address: two steps on average in a table of random routes, 33 for IPv4
-    /// and 129 for IPv6 at most. Takes no memory.
+    /// it, with fewer bits of the address: one step where a route contains the address and some ten where
+    /// none does, in tables as routers have them; 33 for IPv4 and 129 for IPv6 at most. Takes no memory.
     ///
     /// (from tests/art_routes/tests.rt.txt)
     /// ```rust
@@ -380,7 +381,8 @@ impl<V: Drop> RouteTable<V> {
     }
 
     /// Puts the routes into memory in their order, with room for just them. All memory is taken before a
-    /// route moves: the routes are unchanged, also after a failure.
+    /// route moves: the routes are unchanged, also after a failure. The clause sees the list of routes, which
+    /// shows no memory.
     pub fn compact(&mut self) -> Result<(), AllocError>
         ensures same_routes { self.new ≡ self.old }
     {
