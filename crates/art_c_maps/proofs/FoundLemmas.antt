@@ -1,5 +1,5 @@
 -- An entry that was found, read as key and value.
-use Rattle.std.proofs.Common.{◌≡◌, ◌≤◌, ◌∙◌, Bool, filter, ◌-◌, ℕ, List, [], ◌∷◌, ◌++◌, length, drop, reverse, take, Option, Some, None, IfSome, IfNone, Result, Ok, Err, IfOk, OnOk, refl, sym, ap, subst, arith, length-append}
+use Rattle.std.proofs.Common.{◌≡◌, ◌≤◌, ◌∙◌, Bool, filter, ◌-◌, ℕ, List, [], ◌∷◌, ◌++◌, length, drop, reverse, take, Option, Some, None, IfSome, IfNone, Result, Ok, Err, IfOk, OnOk, OnErr, refl, sym, ap, subst, arith, length-append}
 use Rattle.std.specs.Option.{MatchOption, option_map}
 use Rattle.std.specs.Prelude.{slice_get}
 use Rattle.std.specs.Borrow.{Bor}
@@ -89,6 +89,15 @@ module _ {A E : Type 0} where
   pub on-ok : (r : Result A E) (P Q : Type 0) → (P → Q) → OnOk r P → OnOk r Q
   on-ok (Ok x) P Q f p = f p
   on-ok (Err e) P Q f p = tt
+
+  pub on-err : (r : Result A E) (P Q : Type 0) → (P → Q) → OnErr r P → OnErr r Q
+  on-err (Ok x) P Q f p = tt
+  on-err (Err e) P Q f p = f p
+
+-- nothing is made of nothing alone
+pub none_from : {X Y : Type 0} (f : X → Y) (o : Option X) → option_map f o ≡ None → o ≡ None
+none_from f None is = refl
+none_from f (Some x) is = absurd (cc)
 
 -- no more pass a test than there are
 pub filter-fewer : {X : Type 0} (p : X → Bool) (xs passed : List X) → passed ≡ filter p xs → length passed ≤ length xs

@@ -1,5 +1,5 @@
 //! Maps by bytes.
-ghost use Rattle.std.specs.Prelude.{All, ◌≡◌, ◌&&◌, ◌-◌, ◌<◌, ◌≤◌, ◌^◌, [], drop, get_or, length, min, nat_eq, not, reverse, take, true, IfErr, IfOk, IsOk, OnErr, OnOk, if◌then◌else◌};
+ghost use Rattle.std.specs.Prelude.{All, ◌≡◌, ◌≢◌, ◌&&◌, ◌-◌, ◌<◌, ◌≤◌, ◌^◌, [], drop, get_or, length, min, nat_eq, not, reverse, take, true, IfErr, IfOk, IsOk, None, OnErr, OnOk, if◌then◌else◌};
 ghost use Rattle.std.specs.List.{starts_with, zip};
 ghost use Rattle.std.specs.Option.{option_map};
 ghost use Rattle.std.specs.Ordering.{is_gt, is_lt};
@@ -196,8 +196,8 @@ impl BytesMap {
 
     /// Sets the value of a key, and returns the value that it had.
     ///
-    /// A key that is too long is refused before any memory is taken. After a refusal the entries are
-    /// unchanged.
+    /// A key that is too long is refused before any memory is taken. Memory for the key is taken also where
+    /// the map has it. After a refusal the entries are unchanged.
     pub fn insert(&mut self, alloc: Global, key: &[u8], value: u64) -> Result<Option<u64>, Refusal>
         ensures replaced { IfOk result
             (λ before. before ≡ value_of text_order self.old key.now) }
@@ -236,11 +236,15 @@ impl BytesMap {
         Ok(self.entries.get(&sought).copied())
     }
 
-    /// Removes a key, and returns the value that it had. After a failure the entries are unchanged.
+    /// Removes a key, and returns the value that it had.
+    ///
+    /// Error: [`AllocError`] on an allocation failure, for a key of 256 bytes or fewer only where it is there.
+    /// The entries are unchanged.
     pub fn remove(&mut self, alloc: Global, key: &[u8]) -> Result<Option<u64>, AllocError>
         ensures removed { IfOk result
             (λ value. value ≡ value_of text_order self.old key.now) }
         ensures entries { OnOk result (self.new ≡ without text_order self.old key.now) }
+        ensures refused { length key.now ≤ 256 → OnErr result (value_of text_order self.old key.now ≢ None) }
         ensures same_entries { OnErr result (self.new ≡ self.old) }
     {
         self.entries.entries_ascend();

@@ -1,5 +1,5 @@
 //! Maps by 64-bit numbers.
-ghost use Rattle.std.specs.Prelude.{◌≡◌, ◌-◌, ◌<◌, [], drop, length, min, reverse, take, IfErr, IfOk, OnErr, OnOk};
+ghost use Rattle.std.specs.Prelude.{◌≡◌, ◌≢◌, ◌-◌, ◌<◌, [], drop, length, min, reverse, take, IfErr, IfOk, None, OnErr, OnOk};
 ghost use Rattle.std.specs.Int.{from_be_bytes, w64};
 ghost use Rattle.std.specs.List.{zip};
 ghost use Rattle.std.specs.Option.{option_map};
@@ -148,10 +148,12 @@ impl NumberMap {
 
     /// Sets the value of a key, and returns the value that it had.
     ///
-    /// Error: [`AllocError`] on an allocation failure. The entries are unchanged.
+    /// Error: [`AllocError`] on an allocation failure, only where the key is not there. The entries are
+    /// unchanged.
     pub fn insert(&mut self, key: u64, value: u64) -> Result<Option<u64>, AllocError>
         ensures replaced { IfOk result (λ before. before ≡ value_of nat_cmp self.old key) }
         ensures entries { OnOk result (self.new ≡ put nat_cmp self.old key value) }
+        ensures no_entry { OnErr result (value_of nat_cmp self.old key ≡ None) }
         ensures same_entries { OnErr result (self.new ≡ self.old) }
     {
         self.entries.entries_ascend();
@@ -176,6 +178,7 @@ impl NumberMap {
     pub fn remove(&mut self, key: u64) -> Result<Option<u64>, AllocError>
         ensures removed { IfOk result (λ value. value ≡ value_of nat_cmp self.old key) }
         ensures entries { OnOk result (self.new ≡ without nat_cmp self.old key) }
+        ensures refused { OnErr result (value_of nat_cmp self.old key ≢ None) }
         ensures same_entries { OnErr result (self.new ≡ self.old) }
     {
         self.entries.entries_ascend();

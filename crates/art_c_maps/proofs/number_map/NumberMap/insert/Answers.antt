@@ -1,4 +1,4 @@
-use Rattle.std.proofs.Common.{◌∙◌, refl, ap}
+use Rattle.std.proofs.Common.{◌∙◌, refl, sym, ap}
 use Rattle.std.specs.Option.{option_map}
 use Rattle.std.specs.Ordering.{nat_cmp}
 use Rattle.art_mapped.specs.Mapped.{mapped_text}
@@ -17,3 +17,8 @@ pub returns-in-Ok-clause-entries : goal.returns-in-Ok-clause-entries
 returns-in-Ok-clause-entries c =
     ap (entries_read number_read mapped_text) c.in-Ok.ensures.entries
     ∙ put-at nat_cmp (digits 8) number_read IsNumber numbers-keep number-read mapped_text c.self.inside.entries c.args.self.now c.self.view_is (number-texts mapped_text c.self.inside.entries c.entries_ascend.ensures.keys) (mapped_text c.of.result) c.args.key c.ranges.key.fits c.of.ensures.text c.of.result c.args.value refl
+
+pub returns-clause-no_entry : goal.returns-clause-no_entry
+returns-clause-no_entry c =
+    sym (value-at nat_cmp (digits 8) number_read IsNumber numbers-keep number-read mapped_text c.self.inside.entries c.args.self.now c.self.view_is (number-texts mapped_text c.self.inside.entries c.entries_ascend.ensures.keys) (mapped_text c.of.result) c.args.key c.ranges.key.fits c.of.ensures.text)
+    ∙ ap (option_map (λ entry. entry.1)) c.in-Err.ensures.no_entry
