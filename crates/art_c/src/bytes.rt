@@ -231,6 +231,8 @@ pub extern "C" fn art_bytes_remove(
         result ≡ status_of (value_of text_order (entries_of map.old.held) key.now) }
     ensures value { IsDone result → value.new
         ≡ found_or (value_of text_order (entries_of map.old.held) key.now) value.old }
+    ensures refused_for_memory { length key.now ≤ 256 → result ≡ ART_NO_MEMORY →
+        value_of text_order (entries_of map.old.held) key.now ≢ None }
     ensures refused { IsRefusal result →
         (map.new.held ≡ map.old.held) × (value.new ≡ value.old) }
 {

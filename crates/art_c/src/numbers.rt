@@ -158,6 +158,7 @@ pub extern "C" fn art_u64_insert(
         result ≡ status_of (value_of nat_cmp (entries_of map.old.held) key) }
     ensures before { IsDone result →
         before.new ≡ found_or (value_of nat_cmp (entries_of map.old.held) key) before.old }
+    ensures no_entry { result ≡ ART_NO_MEMORY → value_of nat_cmp (entries_of map.old.held) key ≡ None }
     ensures refused { IsRefusal result →
         (map.new.held ≡ map.old.held) × (before.new ≡ before.old) }
 {
@@ -195,6 +196,8 @@ pub extern "C" fn art_u64_remove(map: &mut NumberHandle, key: u64, value: &mut u
         result ≡ status_of (value_of nat_cmp (entries_of map.old.held) key) }
     ensures value { IsDone result →
         value.new ≡ found_or (value_of nat_cmp (entries_of map.old.held) key) value.old }
+    ensures refused_for_memory { result ≡ ART_NO_MEMORY →
+        value_of nat_cmp (entries_of map.old.held) key ≢ None }
     ensures refused { IsRefusal result →
         (map.new.held ≡ map.old.held) × (value.new ≡ value.old) }
 {

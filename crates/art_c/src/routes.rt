@@ -1,5 +1,5 @@
 //! The exports for route tables.
-ghost use Rattle.std.specs.Prelude.{◌≡◌, ◌≢◌, ◌*◌, ◌/◌, ◌<◌, ◌⊎◌, ◌↔◌, ℕ, true, false, [], None, Some, IfNone, IfSome, IsSome, drop, get_or, length, min, nat_le, take, if◌then◌else◌};
+ghost use Rattle.std.specs.Prelude.{◌≡◌, ◌≢◌, ◌*◌, ◌/◌, ◌<◌, ◌⊎◌, ◌↔◌, ℕ, true, false, [], None, Some, IfNone, IfSome, IsSome, drop, get_or, length as list_length, min, nat_le, take, if◌then◌else◌};
 ghost use Rattle.std.specs.Option.{option_map};
 ghost use Rattle.art_routes.specs.Networks.{network_around};
 ghost use Rattle.art_routes.specs.Tables.{IsLongest, NoneContains, covering, put_route, value_of, without_route};
@@ -77,7 +77,7 @@ pub extern "C" fn art_routes_free(alloc: Global, table: &mut RoutesHandle)
 /// The number of routes, 0 where there is no table.
 #[unsafe(no_mangle)]
 pub extern "C" fn art_routes_len(table: &mut RoutesView) -> usize
-    ensures len { result ≡ length (entries_of table.old.seen) }
+    ensures len { result ≡ list_length (entries_of table.old.seen) }
     ensures same { table.new ≡ table.old }
 {
     let Some(held) = table.lent() else {
@@ -150,6 +150,8 @@ pub extern "C" fn art_routes_insert(
         result ≡ status_of (value_of (entries_of table.old.held) (network_in address.now length)) }
     ensures before { IsRouted result → before.new
         ≡ found_or (value_of (entries_of table.old.held) (network_in address.now length)) before.old }
+    ensures no_route { result ≡ ART_NO_MEMORY →
+        value_of (entries_of table.old.held) (network_in address.now length) ≡ None }
     ensures refused { IsUnrouted result →
         (table.new.held ≡ table.old.held) × (before.new ≡ before.old) }
 {
@@ -209,6 +211,8 @@ pub extern "C" fn art_routes_remove(
         result ≡ status_of (value_of (entries_of table.old.held) (network_in address.now length)) }
     ensures value { IsRouted result → value.new
         ≡ found_or (value_of (entries_of table.old.held) (network_in address.now length)) value.old }
+    ensures refused_for_memory { result ≡ ART_NO_MEMORY →
+        value_of (entries_of table.old.held) (network_in address.now length) ≢ None }
     ensures refused { IsUnrouted result →
         (table.new.held ≡ table.old.held) × (value.new ≡ value.old) }
 {
@@ -273,7 +277,7 @@ pub extern "C" fn art_routes_longest_match_many(
     ensures bad_width { result ≢ ART_NO_MAP → (result ≡ ART_BAD_NETWORK) ↔ (is_width width ≡ false) }
     ensures status { (result ≢ ART_NO_MAP) × (result ≢ ART_BAD_NETWORK) → result ≡ ART_NONE }
     ensures count { result ≡ ART_NONE →
-        count.new ≡ min (length addresses.now / width) (min (length lengths.old) (length values.old)) }
+        count.new ≡ min (list_length addresses.now / width) (min (list_length lengths.old) (list_length values.old)) }
     ensures matches { result ≡ ART_NONE → (i : ℕ) → i < count.new → IsMatched (entries_of table.old.seen)
         (address_in (take width (drop (i * width) addresses.now))) (get_or values.old i 0)
         (get_or lengths.new i 0, get_or values.new i 0) }
@@ -301,42 +305,42 @@ pub extern "C" fn art_routes_longest_match_many(
 pub extern "C" fn art_routes_next(
     table: &mut RoutesView,
     from: &[u8],
-    from_bits: u8,
+    from_length: u8,
     inclusive: bool,
     address_out: &mut [u8],
     width: &mut usize,
-    bits: &mut u8,
+    length: &mut u8,
     value: &mut u64,
 ) -> u32
     ensures no_map { (result ≡ ART_NO_MAP) ↔ (table.old.seen ≡ None) }
     ensures bad_network { result ≢ ART_NO_MAP →
-        (result ≡ ART_BAD_NETWORK) ↔ (is_network from.now from_bits ≡ false) }
+        (result ≡ ART_BAD_NETWORK) ↔ (is_network from.now from_length ≡ false) }
     ensures status { (result ≢ ART_NO_MAP) × (result ≢ ART_BAD_NETWORK) → result ≡ route_status
-        (first_of (routes_from inclusive (network_in from.now from_bits) (entries_of table.old.seen)))
-        (length address_out.old) }
+        (first_of (routes_from inclusive (network_in from.now from_length) (entries_of table.old.seen)))
+        (list_length address_out.old) }
     ensures address { (result ≢ ART_NO_MAP) × (result ≢ ART_BAD_NETWORK) → address_out.new ≡ address_written
-        (first_of (routes_from inclusive (network_in from.now from_bits) (entries_of table.old.seen)))
+        (first_of (routes_from inclusive (network_in from.now from_length) (entries_of table.old.seen)))
         address_out.old }
     ensures width { (result ≢ ART_NO_MAP) × (result ≢ ART_BAD_NETWORK) → width.new ≡ width_or
-        (first_of (routes_from inclusive (network_in from.now from_bits) (entries_of table.old.seen)))
+        (first_of (routes_from inclusive (network_in from.now from_length) (entries_of table.old.seen)))
         width.old }
-    ensures bits { (result ≢ ART_NO_MAP) × (result ≢ ART_BAD_NETWORK) → bits.new ≡ length_in
-        (first_of (routes_from inclusive (network_in from.now from_bits) (entries_of table.old.seen)))
-        (length address_out.old) bits.old }
+    ensures length { (result ≢ ART_NO_MAP) × (result ≢ ART_BAD_NETWORK) → length.new ≡ length_in
+        (first_of (routes_from inclusive (network_in from.now from_length) (entries_of table.old.seen)))
+        (list_length address_out.old) length.old }
     ensures value { (result ≢ ART_NO_MAP) × (result ≢ ART_BAD_NETWORK) → value.new ≡ route_value_in
-        (first_of (routes_from inclusive (network_in from.now from_bits) (entries_of table.old.seen)))
-        (length address_out.old) value.old }
+        (first_of (routes_from inclusive (network_in from.now from_length) (entries_of table.old.seen)))
+        (list_length address_out.old) value.old }
     ensures refused { (result ≡ ART_NO_MAP) ⊎ (result ≡ ART_BAD_NETWORK) → (address_out.new ≡ address_out.old)
-        × (width.new ≡ width.old) × (bits.new ≡ bits.old) × (value.new ≡ value.old) }
+        × (width.new ≡ width.old) × (length.new ≡ length.old) × (value.new ≡ value.old) }
     ensures same { table.new ≡ table.old }
 {
     let Some(held) = table.lent() else {
         return NO_MAP;
     };
     let room = address_out.len();
-    let found = held.next(from, from_bits, inclusive, address_out);
+    let found = held.next(from, from_length, inclusive, address_out);
     match found {
-        Ok(found) => found_status(found, room, width, bits, value),
+        Ok(found) => found_status(found, room, width, length, value),
         Err(_) => BAD_NETWORK,
     }
 }
@@ -347,21 +351,24 @@ pub extern "C" fn art_routes_next(
 pub extern "C" fn art_routes_covering(
     table: &mut RoutesView,
     address: &[u8],
-    bits: u8,
+    length: u8,
     lengths: &mut [u8],
     values: &mut [u64],
     count: &mut usize,
 ) -> u32
     ensures no_map { (result ≡ ART_NO_MAP) ↔ (table.old.seen ≡ None) }
     ensures bad_network { result ≢ ART_NO_MAP →
-        (result ≡ ART_BAD_NETWORK) ↔ (is_network address.now bits ≡ false) }
+        (result ≡ ART_BAD_NETWORK) ↔ (is_network address.now length ≡ false) }
     ensures status { (result ≢ ART_NO_MAP) × (result ≢ ART_BAD_NETWORK) → result ≡ ART_NONE }
-    ensures count { result ≡ ART_NONE → count.new ≡ length (take (min (length lengths.old) (length values.old))
-        (covering (network_in address.now bits) (entries_of table.old.seen))) }
-    ensures lengths { result ≡ ART_NONE → lengths.new ≡ begun_with (lengths_of
-        (take (min (length lengths.old) (length values.old)) (covering (network_in address.now bits) (entries_of table.old.seen)))) lengths.old }
-    ensures values { result ≡ ART_NONE → values.new ≡ begun_with (values_of
-        (take (min (length lengths.old) (length values.old)) (covering (network_in address.now bits) (entries_of table.old.seen)))) values.old }
+    ensures count { result ≡ ART_NONE → count.new ≡ list_length (take
+        (min (list_length lengths.old) (list_length values.old))
+        (covering (network_in address.now length) (entries_of table.old.seen))) }
+    ensures lengths { result ≡ ART_NONE → lengths.new ≡ begun_with (lengths_of (take
+        (min (list_length lengths.old) (list_length values.old))
+        (covering (network_in address.now length) (entries_of table.old.seen)))) lengths.old }
+    ensures values { result ≡ ART_NONE → values.new ≡ begun_with (values_of (take
+        (min (list_length lengths.old) (list_length values.old))
+        (covering (network_in address.now length) (entries_of table.old.seen)))) values.old }
     ensures refused { (result ≡ ART_NO_MAP) ⊎ (result ≡ ART_BAD_NETWORK) →
         (lengths.new ≡ lengths.old) × (values.new ≡ values.old) × (count.new ≡ count.old) }
     ensures same { table.new ≡ table.old }
@@ -369,7 +376,7 @@ pub extern "C" fn art_routes_covering(
     let Some(held) = table.lent() else {
         return NO_MAP;
     };
-    let written = held.covering(address, bits, lengths, values);
+    let written = held.covering(address, length, lengths, values);
     match written {
         Some(done) => {
             *count = done;

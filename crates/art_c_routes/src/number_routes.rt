@@ -1,12 +1,12 @@
 //! Route tables with 64-bit values.
-ghost use Rattle.std.specs.Prelude.{◌≡◌, ◌*◌, ◌/◌, ◌<◌, ℕ, true, false, [], IfErr, IfNone, IfOk, IfSome, MatchOption, OnErr, OnOk, drop, get_or, length, min, take};
+ghost use Rattle.std.specs.Prelude.{◌≡◌, ◌≢◌, ◌*◌, ◌/◌, ◌<◌, ℕ, true, false, [], None, IfErr, IfNone, IfOk, IfSome, MatchOption, OnErr, OnOk, drop, get_or, length as list_length, min, take};
 ghost use Rattle.std.specs.Option.{option_map};
 ghost use Rattle.art_routes.specs.Networks.{address_of, network_around};
 ghost use Rattle.art_routes.specs.Tables.{IsLongest, NoneContains, covering as covering_routes, put_route, value_of, without_route};
 ghost use Rattle.art_c_maps.specs.Entries.{begun_with, first_of, values_of};
 ghost use Rattle.art_c_routes.specs.Addresses.{address_in, is_address, is_network, is_width, network_in};
 ghost use Rattle.art_c_routes.specs.Found.{IsMatched, address_written, found_parts, lengths_of, routes_from};
-ghost use Rattle.art_c_routes.specs.Refusals.{IsRefused};
+ghost use Rattle.art_c_routes.specs.Refusals.{IsRouteRefused};
 
 use crate::address::{address_at, address_from, network_from, write_address};
 use crate::refusal::Refusal;
@@ -37,11 +37,11 @@ impl Model for NumberRoutes {
 // Writes the lengths and the values of the first of these routes, as many as the shorter of both slices
 // holds. Returns how many.
 fn write_routes(mut routes: Covering<'_, u64>, lengths: &mut [u8], values: &mut [u64]) -> usize
-    ensures count { result ≡ length (take (min (length lengths.old) (length values.old)) routes.entry) }
+    ensures count { result ≡ list_length (take (min (list_length lengths.old) (list_length values.old)) routes.entry) }
     ensures lengths { lengths.new ≡ begun_with
-        (lengths_of (take (min (length lengths.old) (length values.old)) routes.entry)) lengths.old }
+        (lengths_of (take (min (list_length lengths.old) (list_length values.old)) routes.entry)) lengths.old }
     ensures values { values.new ≡ begun_with
-        (values_of (take (min (length lengths.old) (length values.old)) routes.entry)) values.old }
+        (values_of (take (min (list_length lengths.old) (list_length values.old)) routes.entry)) values.old }
 {
     let room = lengths.len().min(values.len());
     for index in 0..room {
@@ -68,7 +68,7 @@ impl NumberRoutes {
 
     /// The number of routes. Takes constant time and no memory.
     pub fn len(&self) -> usize
-        ensures { result ≡ length self.now }
+        ensures { result ≡ list_length self.now }
     {
         self.table.len()
     }
@@ -95,13 +95,14 @@ impl NumberRoutes {
         self.table.compact()
     }
 
-    /// Adds a route. Where there is one to the same network, its value is replaced and returned. After a
-    /// refusal the routes are unchanged.
+    /// Adds a route. Where there is one to the same network, its value is replaced and returned. Memory is
+    /// refused only where there is none. After a refusal the routes are unchanged.
     pub fn insert(&mut self, address: &[u8], length: u8, value: u64) -> Result<Option<u64>, Refusal>
         ensures replaced { IfOk result (λ before. before ≡ value_of self.old (network_in address.now length)) }
         ensures routes { OnOk result (self.new ≡ put_route self.old (network_in address.now length) value) }
         ensures is_network { OnOk result (is_network address.now length ≡ true) }
-        ensures refusal_due { IfErr result (IsRefused address.now length) }
+        ensures refusal_due { IfErr result (IsRouteRefused address.now length) }
+        ensures no_route { result ≡ Err Refusal.OutOfMemory → value_of self.old (network_in address.now length) ≡ None }
         ensures same_routes { OnErr result (self.new ≡ self.old) }
     {
         let Some(network) = network_from(address, length) else {
@@ -125,13 +126,14 @@ impl NumberRoutes {
         Ok(self.table.get(&network).copied())
     }
 
-    /// Removes the route to this very network, if there is one, and returns its value. After a refusal the
-    /// routes are unchanged.
+    /// Removes the route to this very network, if there is one, and returns its value. Memory is refused only
+    /// where there is one. After a refusal the routes are unchanged.
     pub fn remove(&mut self, address: &[u8], length: u8) -> Result<Option<u64>, Refusal>
         ensures removed { IfOk result (λ value. value ≡ value_of self.old (network_in address.now length)) }
         ensures routes { OnOk result (self.new ≡ without_route self.old (network_in address.now length)) }
         ensures is_network { OnOk result (is_network address.now length ≡ true) }
-        ensures refusal_due { IfErr result (IsRefused address.now length) }
+        ensures refusal_due { IfErr result (IsRouteRefused address.now length) }
+        ensures refused { result ≡ Err Refusal.OutOfMemory → value_of self.old (network_in address.now length) ≢ None }
         ensures same_routes { OnErr result (self.new ≡ self.old) }
     {
         let Some(network) = network_from(address, length) else {
@@ -192,7 +194,7 @@ impl NumberRoutes {
         ensures is_width { IfSome result (λ count. is_width width ≡ true) }
         ensures bad_width { IfNone result (is_width width ≡ false) }
         ensures count { IfSome result (λ count.
-            count ≡ min (length addresses.now / width) (min (length lengths.old) (length values.old))) }
+            count ≡ min (list_length addresses.now / width) (min (list_length lengths.old) (list_length values.old))) }
         ensures matches { IfSome result (λ count. (i : ℕ) → i < count → IsMatched self.now
             (address_in (take width (drop (i * width) addresses.now))) (get_or values.old i 0)
             (get_or lengths.new i 0, get_or values.new i 0)) }
@@ -262,21 +264,24 @@ impl NumberRoutes {
     pub fn covering(
         &self,
         address: &[u8],
-        bits: u8,
+        length: u8,
         lengths: &mut [u8],
         values: &mut [u64],
     ) -> Option<usize>
-        ensures count { IfSome result (λ count. count ≡ length (take (min (length lengths.old) (length values.old))
-            (covering_routes (network_in address.now bits) self.now))) }
-        ensures lengths { IfSome result (λ count. lengths.new ≡ begun_with (lengths_of
-            (take (min (length lengths.old) (length values.old)) (covering_routes (network_in address.now bits) self.now))) lengths.old) }
-        ensures values { IfSome result (λ count. values.new ≡ begun_with (values_of
-            (take (min (length lengths.old) (length values.old)) (covering_routes (network_in address.now bits) self.now))) values.old) }
-        ensures is_network { IfSome result (λ count. is_network address.now bits ≡ true) }
-        ensures refusal_due { IfNone result (is_network address.now bits ≡ false) }
+        ensures count { IfSome result (λ count. count ≡ list_length (take
+            (min (list_length lengths.old) (list_length values.old))
+            (covering_routes (network_in address.now length) self.now))) }
+        ensures lengths { IfSome result (λ count. lengths.new ≡ begun_with (lengths_of (take
+            (min (list_length lengths.old) (list_length values.old))
+            (covering_routes (network_in address.now length) self.now))) lengths.old) }
+        ensures values { IfSome result (λ count. values.new ≡ begun_with (values_of (take
+            (min (list_length lengths.old) (list_length values.old))
+            (covering_routes (network_in address.now length) self.now))) values.old) }
+        ensures is_network { IfSome result (λ count. is_network address.now length ≡ true) }
+        ensures refusal_due { IfNone result (is_network address.now length ≡ false) }
         ensures same { IfNone result ((lengths.new ≡ lengths.old) × (values.new ≡ values.old)) }
     {
-        let network = network_from(address, bits)?;
+        let network = network_from(address, length)?;
         Some(write_routes(self.table.covering(&network), lengths, values))
     }
 }
