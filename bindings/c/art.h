@@ -154,8 +154,8 @@ uint32_t art_u64_load(art_u64_map *map, const uint64_t *keys, size_t keys_len, c
 /* Routes: a value for each network. An address has `width` bytes, the highest first: 4 of IPv4, or 16 of IPv6; a network is
    an address and how many of its first bits are given, with no bit set behind these. Else the status is ART_BAD_NETWORK. IPv4
    and IPv6 never match each other. Networks of IPv4 come before those of IPv6; then they go by their addresses, and of two
-   with one address the shorter comes first. Only new, reserve, compact, insert where no route is to
-   the network, and remove where one is, may return ART_NO_MEMORY. */
+   with one address the shorter comes first. Only new, reserve, compact, insert where no route is to the network, and
+   remove where one is, may return ART_NO_MEMORY. */
 uint32_t art_routes_new(art_routes_map *map);
 void art_routes_free(art_routes_map *map);
 size_t art_routes_len(const art_routes_map *map);
