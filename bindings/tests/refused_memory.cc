@@ -144,6 +144,10 @@ static std::vector<Call> script() {
                   return art_bytes_next_many(&maps.bytes, key, len / 2, key, len, true, maps.key, sizeof maps.key, ends, 4, values, 4, &count, &maps.len);), i);
         look(CALL(size_t ends[4]; size_t count; uint64_t values[4];
                   return art_bytes_previous_many(&maps.bytes, key, len / 2, key, len, true, maps.key, sizeof maps.key, ends, 4, values, 4, &count, &maps.len);), i);
+        // Of no bytes, which is never refused, and of all.
+        look(CALL(size_t ends[2]; uint8_t found[2]; uint64_t values[2]; size_t count; ends[0] = 0; ends[1] = len;
+                  uint32_t status = art_bytes_get_many(&maps.bytes, key, len, ends, 2, found, 2, values, 2, &count);
+                  CHECK(count == (status == ART_NO_MEMORY ? 1 : 2)); return status;), i);
         look(CALL(return art_bytes_count_prefix(&maps.bytes, key, len) == ART_NO_COUNT ? ART_NO_MEMORY : ART_NONE;), i);
         look(CALL(return art_u64_get(&maps.numbers, with, &maps.value);), i);
     }
@@ -203,27 +207,59 @@ static bool run(const std::vector<Call> &calls, long allocation) {
 }
 
 // Many entries at once, with this allocation refused: those before it are in, and no others. Whether there was one.
-static bool stops(long allocation) {
-    Maps maps;
-    std::vector<uint64_t> keys, values;
-    for (uint64_t i = 0; i < 300; i++) {
-        keys.push_back(i * 0x9E3779B97F4A7C15u >> 40);
-        values.push_back(i);
-    }
-    CHECK(art_u64_new(&maps.numbers) == ART_NONE);
+template <typename Key, typename Insert, typename Entries>
+static bool stops(long allocation, const std::vector<Key> &keys, Insert insert, Entries entries) {
+    std::vector<uint64_t> values;
+    for (uint64_t i = 0; i < keys.size(); i++) values.push_back(i);
     until_refusal = allocation;
     refused = false;
     size_t done = 0;
     counting = true;
-    uint32_t status = art_u64_insert_many(&maps.numbers, keys.data(), keys.size(), values.data(), values.size(), &done);
+    uint32_t status = insert(values, &done);
     counting = false;
     CHECK(status == (refused ? ART_NO_MEMORY : ART_NONE) && (done < keys.size()) == refused);
-    std::map<uint64_t, uint64_t> model;
+    std::map<Key, uint64_t> model;
     for (size_t i = 0; i < done; i++) model[keys[i]] = values[i];
-    CHECK((maps.entries().second == std::vector<std::pair<uint64_t, uint64_t>>(model.begin(), model.end())));
+    CHECK((entries() == std::vector<std::pair<Key, uint64_t>>(model.begin(), model.end())));
+    return refused;
+}
+
+static bool numbers_stop(long allocation) {
+    Maps maps;
+    std::vector<uint64_t> keys;
+    for (uint64_t i = 0; i < 300; i++) keys.push_back(i * 0x9E3779B97F4A7C15u >> 40);
+    CHECK(art_u64_new(&maps.numbers) == ART_NONE);
+    auto insert = [&](const std::vector<uint64_t> &values, size_t *done) {
+        return art_u64_insert_many(&maps.numbers, keys.data(), keys.size(), values.data(), values.size(), done);
+    };
+    bool stopped = stops(allocation, keys, insert, [&] { return maps.entries().second; });
     art_u64_free(&maps.numbers);
     CHECK(blocks == 0);
-    return refused;
+    return stopped;
+}
+
+// The same by bytes, each of which takes memory.
+static bool names_stop(long allocation) {
+    Maps maps;
+    std::vector<std::string> names;
+    std::string keys;
+    std::vector<size_t> ends;
+    for (uint64_t i = 0; i < 300; i++) {
+        uint8_t room[400];
+        size_t len;
+        const uint8_t *key = name(i * 37 % 9001, room, &len);
+        names.emplace_back(key, key + len);
+        ends.push_back((keys += names.back()).size());
+    }
+    CHECK(art_bytes_new(&maps.bytes) == ART_NONE);
+    auto insert = [&](const std::vector<uint64_t> &values, size_t *done) {
+        return art_bytes_insert_many(&maps.bytes, reinterpret_cast<const uint8_t *>(keys.data()), keys.size(), ends.data(), ends.size(),
+                                     values.data(), values.size(), done);
+    };
+    bool stopped = stops(allocation, names, insert, [&] { return maps.entries().first; });
+    art_bytes_free(&maps.bytes);
+    CHECK(blocks == 0);
+    return stopped;
 }
 
 // A load with this allocation refused: no entry is in, and it may be made again. Whether there was one.
@@ -332,8 +368,10 @@ static void reserves(const Kind &kind) {
 
 int main() {
     for (const Kind &kind : kinds) reserves(kind);
-    long many = 1;
-    while (stops(many)) many++;
+    long numbers = 1, names = 1;
+    while (numbers_stop(numbers)) numbers++;
+    while (names_stop(names)) names++;
+    CHECK(numbers > 1 && names > 300);
     long load = 1;
     while (loads(load)) load++;
     std::vector<Call> calls = script();
