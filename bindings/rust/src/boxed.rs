@@ -1,7 +1,7 @@
 use crate::bounds::KeyBounds;
 use crate::boxed_iter::{ExtractIf, IntoIter, IntoKeys, IntoValues, Iter, IterMut, Range, RangeMut, Values, ValuesMut};
 use crate::entry::{Entry, OccupiedEntry, VacantEntry};
-use crate::key::{AsKey, Key};
+use crate::key::{AsKey, Key, Many};
 use crate::range::{Cursor, Keys};
 use crate::refusal::{granted, Refusal};
 use crate::words::{Shown, WordMap};
@@ -70,6 +70,23 @@ impl<V, K: Key> Map<V, K> {
     /// An empty map, where memory for it is found.
     pub fn try_new() -> Result<Self, Refusal> {
         Ok(Map { words: WordMap::try_new()?, values: PhantomData })
+    }
+
+    /// A map of entries whose keys ascend, each above the one before, as [`WordMap::from_ascending`] makes it. To `collect`
+    /// entries does the same where their keys ascend, and inserts them one after another where not. Where it is refused, the
+    /// values are dropped.
+    ///
+    /// ```
+    /// use verified_art::{Map, Refusal};
+    ///
+    /// let symbols = Map::<&str>::from_ascending([("gold", "Au"), ("iron", "Fe"), ("tin", "Sn")]).unwrap();
+    /// assert_eq!(symbols.range("h"..).next(), Some((b"iron".to_vec(), &"Fe")));
+    /// assert_eq!(Map::<u32, u64>::from_ascending([(7u64, 1), (5, 2)]), Err(Refusal::NotAscending));
+    /// ```
+    pub fn from_ascending<Q: AsKey<K>>(entries: impl IntoIterator<Item = (Q, V)>) -> Result<Self, Refusal> {
+        let mut gathered = Gathered::new();
+        entries.into_iter().for_each(|(key, value)| gathered.push(key.as_key(), value));
+        gathered.loaded()
     }
 
     /// The number of entries. Takes constant time.
@@ -298,6 +315,38 @@ impl<V> Map<V, Vec<u8>> {
     }
 }
 
+/// Entries for one call, whose values are dropped where no map takes them.
+struct Gathered<V, K: Key> {
+    // INVARIANT: each value is the address of a box that nobody else has.
+    many: Many<K::Word>,
+    values: PhantomData<V>,
+}
+
+impl<V, K: Key> Gathered<V, K> {
+    fn new() -> Self {
+        Gathered { many: Many::new(), values: PhantomData }
+    }
+
+    fn push(&mut self, key: &K::Sought, value: V) {
+        K::push(&mut self.many, key, word_of(Box::new(value)));
+    }
+
+    fn loaded(mut self) -> Result<Map<V, K>, Refusal> {
+        let words = WordMap::loaded(&self.many)?;
+        self.many.take_values();
+        Ok(Map { words, values: PhantomData })
+    }
+}
+
+impl<V, K: Key> Drop for Gathered<V, K> {
+    fn drop(&mut self) {
+        // As boxes first: where a drop panics, the others are dropped too.
+        // SAFETY: nobody else has them.
+        let boxes: Vec<Box<V>> = self.many.take_values().into_iter().map(|word| unsafe { box_of(word) }).collect();
+        drop(boxes);
+    }
+}
+
 // Drops the values of the entries to come. Where memory for a step is refused the rest are kept for ever: there is no
 // other way to them.
 struct DropsRest<'a, V, K: Key>(&'a mut Cursor<K>, &'a WordMap<K>, PhantomData<V>);
@@ -328,12 +377,9 @@ impl<V, K: Key> Default for Map<V, K> {
 
 impl<V: Clone, K: Key> Clone for Map<V, K> {
     fn clone(&self) -> Self {
-        let mut copy = Self::new();
-        copy.reserve(self.len());
-        for (key, value) in self {
-            copy.add(key.sought(), value.clone());
-        }
-        copy
+        let mut gathered = Gathered::new();
+        self.iter().for_each(|(key, value)| gathered.push(key.sought(), value.clone()));
+        granted(gathered.loaded())
     }
 }
 
@@ -399,6 +445,10 @@ impl<'a, V: Copy, K: Key, Q: AsKey<K>> Extend<(Q, &'a V)> for Map<V, K> {
 
 impl<V, K: Key, Q: AsKey<K>> FromIterator<(Q, V)> for Map<V, K> {
     fn from_iter<I: IntoIterator<Item = (Q, V)>>(entries: I) -> Self {
+        let entries: Vec<_> = entries.into_iter().collect();
+        if entries.is_sorted_by(|(one, _), (other, _)| one.as_key() < other.as_key()) {
+            return granted(Self::from_ascending(entries));
+        }
         let mut map = Self::new();
         map.extend(entries);
         map

@@ -4,6 +4,7 @@ use crate::refusal::{found, Refusal};
 use std::collections::VecDeque;
 use std::fmt;
 use std::hash::Hash;
+use std::mem;
 
 /// What the keys of a map are: `Vec<u8>` (any bytes, in lexicographic order) or `u64`.
 pub trait Key: Calls + Clone + Ord + Hash + Default {}
@@ -61,6 +62,10 @@ pub struct Many<W> {
 impl<W> Many<W> {
     pub(crate) fn new() -> Self {
         Many { keys: Vec::new(), ends: Vec::new(), values: Vec::new() }
+    }
+
+    pub(crate) fn take_values(&mut self) -> Vec<u64> {
+        mem::take(&mut self.values)
     }
 }
 

@@ -14,7 +14,7 @@ const MOST_AROUND: usize = 129;
 ///
 /// A network or an address is taken by all calls: a [`Network`], an `IpAddr`, `Ipv4Addr` or `Ipv6Addr`, or their bytes.
 /// IPv4 and IPv6 never match each other. Each value is in a box. Where memory is refused, nothing changes:
-/// [`try_put`](Self::try_put) and the like return the [`Refusal`], the others panic.
+/// [`try_put`](Self::try_put) and the like return the [`Refusal`], the others panic, and `extend` keeps the routes before.
 ///
 /// ```
 /// use verified_art::{Network, RouteTable};

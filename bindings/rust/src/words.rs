@@ -104,7 +104,7 @@ impl<K: Key> WordMap<K> {
         Self::loaded(&gathered(entries))
     }
 
-    fn loaded(many: &Many<K::Word>) -> Result<Self, Refusal> {
+    pub(crate) fn loaded(many: &Many<K::Word>) -> Result<Self, Refusal> {
         let mut map = Self::try_new()?;
         // SAFETY: as for `own`.
         found(unsafe { K::load(&mut map.raw, many) })?;

@@ -98,6 +98,24 @@ fn clones_of_values_are_dropped_with_the_clone() {
 }
 
 #[test]
+fn ascending_entries_are_dropped_where_no_map_is_made_of_them() {
+    let drops = Cell::new(0);
+    let counted = |panics| Counted { drops: &drops, panics };
+    let map = Map::from_ascending((0..50u64).map(|key| (key, counted(false)))).unwrap();
+    assert_eq!((drops.get(), map.len()), (0, 50));
+    drop(map);
+    assert_eq!(drops.get(), 50);
+    assert!(Map::from_ascending([(7u64, counted(false)), (5, counted(false))]).is_err());
+    assert_eq!(drops.get(), 52);
+    let stopped = (0..50u64).map(|key| (key, if key < 30 { counted(false) } else { panic!("no more entries") }));
+    assert!(catch_unwind(AssertUnwindSafe(|| Map::from_ascending(stopped))).is_err());
+    assert_eq!(drops.get(), 82);
+    let refused = [9u64, 8, 7, 6].map(|key| (key, counted(key == 8)));
+    assert!(catch_unwind(AssertUnwindSafe(|| Map::from_ascending(refused))).is_err());
+    assert_eq!(drops.get(), 86);
+}
+
+#[test]
 fn random_calls_lose_no_value() {
     let value = Rc::new(());
     let mut random = Random(3);

@@ -243,6 +243,23 @@ fn collected<K: AnyKey>() {
             sorted.reverse();
             assert_eq!(ascending(&sorted).is_err(), sorted.len() > 1);
         }
+
+        let entries: Vec<(K, String)> = (0..size).map(|_| (K::any(&mut random), random.next().to_string())).collect();
+        let given = |entries: &[(K, String)]| -> Map<String, K> { entries.iter().cloned().collect() };
+        let (ours, theirs) = (given(&entries), BTreeMap::from_iter(entries));
+        same_boxed(&ours, &theirs);
+        same_boxed(&ours.clone(), &theirs);
+        let mut sorted: Vec<_> = theirs.clone().into_iter().collect();
+        same_boxed(&given(&sorted), &theirs);
+        let ascending = |entries: &[(K, String)]| Map::<String, K>::from_ascending(entries.iter().cloned());
+        same_boxed(&ascending(&sorted).unwrap(), &theirs);
+        if let Some(last) = sorted.last().cloned() {
+            sorted.push(last);
+            assert_eq!(ascending(&sorted), Err(Refusal::NotAscending));
+            sorted.pop();
+            sorted.reverse();
+            assert_eq!(ascending(&sorted).is_err(), sorted.len() > 1);
+        }
     }
 }
 
