@@ -231,18 +231,21 @@ impl<V, K: Key> Map<V, K> {
         self.words.pop_last().map(|(key, word)| (key, *unsafe { box_of(word) }))
     }
 
-    /// Moves all entries of another map into this one, where they replace those with the same keys.
+    /// Moves all entries of another map into this one, where they replace those with the same keys. What
+    /// [`WordMap::append`] says of refused memory holds here too.
     pub fn append(&mut self, other: &mut Self) {
-        // SAFETY: no map has a word that is replaced, or that is refused.
+        // SAFETY: no map has a word that is replaced.
         self.words.append_words(&mut other.words, |word| drop(unsafe { box_of::<V>(word) }));
     }
 
-    /// Moves the entries from a key on into a map of their own.
+    /// Moves the entries from a key on into a map of their own. Where memory is refused, nothing moves.
     pub fn split_off(&mut self, key: impl AsKey<K>) -> Self {
+        // Where it is refused, this map alone has the boxes.
         Map { words: self.words.split_off(key), values: PhantomData }
     }
 
-    /// Removes the entries that a closure does not keep. It may change their values.
+    /// Removes the entries that a closure does not keep. It may change their values. Where it panics, or memory is refused,
+    /// the entries from there on stay.
     pub fn retain(&mut self, mut keeps: impl FnMut(&K, &mut V) -> bool) {
         self.extract_if(.., |key, value| !keeps(key, value)).for_each(drop);
     }

@@ -11,14 +11,16 @@ use std::collections::VecDeque;
 use std::fmt;
 use std::hash::{Hash, Hasher};
 use std::marker::PhantomData;
+use std::mem;
 use std::ops::Bound;
 
 /// An ordered map from keys of type `K` to values of 64 bits, with the names of `BTreeMap`.
 ///
 /// Keys and values are copied in and out. A call that must write memory which cannot be had, or a key
 /// that is too long, is refused, and the map is then as it was: the calls named `try_` return the
-/// [`Refusal`], all others panic. In a [`ByteMap`] also `get` and a step of an iterator may need memory, for a key of more
-/// than 256 bytes.
+/// [`Refusal`], all others panic. What goes entry by entry keeps what it did before: `extend`, `retain`, `extract_if`, and
+/// [`append`](Self::append) of byte strings. In a [`ByteMap`] also `get` and a step of an iterator may need memory, for a key
+/// of more than 256 bytes.
 ///
 /// It is `Send` and `Sync`: calls that only look write nothing behind the handle.
 ///
@@ -298,30 +300,43 @@ impl<K: Key> WordMap<K> {
     }
 
     /// Moves all entries of another map into this one, where they replace those with the same keys.
+    ///
+    /// Where memory is refused nothing moves, unless it is for a key of a [`ByteMap`]: the entries before it have then moved,
+    /// and the others are where they were. Both maps [`reserve`](Self::reserve) memory for as many entries.
     pub fn append(&mut self, other: &mut Self) {
         self.append_words(other, drop);
     }
 
     /// The same, and gives away each value that is replaced.
     pub(crate) fn append_words(&mut self, other: &mut Self, mut replaced: impl FnMut(u64)) {
-        while let Some((key, value)) = other.pop_first() {
-            granted(self.put(key.sought(), value).inspect_err(|_| replaced(value))).map(&mut replaced);
+        if self.is_empty() {
+            return mem::swap(self, other);
+        }
+        // From here on nothing takes memory but for a key, and a removal takes none.
+        self.reserve(other.len());
+        other.reserve(other.len());
+        while let Some((key, value)) = granted(other.find(Find::First)) {
+            let before = granted(self.put(key.sought(), value));
+            other.pop_first();
+            if let Some(before) = before {
+                replaced(before);
+            }
         }
     }
 
-    /// Moves the entries from a key on into a map of their own.
+    /// Moves the entries from a key on into a map of their own, as [`from_ascending`](Self::from_ascending) makes it. Where
+    /// memory is refused, nothing moves.
     pub fn split_off(&mut self, key: impl AsKey<K>) -> Self {
-        let mut split = Self::new();
-        let mut cursor = Cursor::new(((key.as_key().to_owned(), true), Bound::Unbounded));
-        while let Some((key, value)) = granted(cursor.try_next(self)) {
-            // In this order, so that no two maps have a value where memory is refused.
-            granted(self.take(key.sought()));
-            granted(split.put(key.sought(), value));
-        }
+        let cursor = Cursor::new(((key.as_key().to_owned(), true), Bound::Unbounded));
+        let split = granted(Self::loaded(&many_of(Range::new(self, cursor))));
+        // The removals are then not refused, which would leave values in both maps.
+        self.reserve(split.len());
+        (0..split.len()).for_each(|_| drop(self.pop_last()));
         split
     }
 
-    /// Removes the entries that a closure does not keep. It may change their values.
+    /// Removes the entries that a closure does not keep. It may change their values. Where it panics, or memory is refused,
+    /// the entries from there on stay.
     pub fn retain(&mut self, mut keeps: impl FnMut(&K, &mut u64) -> bool) {
         self.extract_if(.., |key, value| !keeps(key, value)).for_each(drop);
     }
@@ -414,6 +429,13 @@ fn gathered<K: Key, Q: AsKey<K>>(entries: impl IntoIterator<Item = (Q, u64)>) ->
     many
 }
 
+/// The same of entries of a map.
+fn many_of<K: Key>(entries: impl Iterator<Item = (K, u64)>) -> Many<K::Word> {
+    let mut many = Many::new();
+    entries.for_each(|(key, value)| K::push(&mut many, key.sought(), value));
+    many
+}
+
 /// The bound above all keys that begin with a prefix: the prefix without the 255s at its end, and one more.
 fn end_of_prefix(prefix: &[u8]) -> Bound<Vec<u8>> {
     match prefix.iter().rposition(|&byte| byte < u8::MAX) {
@@ -441,9 +463,7 @@ impl<K: Key> Default for WordMap<K> {
 
 impl<K: Key> Clone for WordMap<K> {
     fn clone(&self) -> Self {
-        let mut many = Many::new();
-        self.iter().for_each(|(key, value)| K::push(&mut many, key.sought(), value));
-        granted(Self::loaded(&many))
+        granted(Self::loaded(&many_of(self.iter())))
     }
 }
 
