@@ -265,13 +265,14 @@ class SortedMap(_core.Core, MutableMapping):
 
 class RouteTable(_core.Routes):
     """RouteTable(), RouteTable(mapping), RouteTable(pairs): values by IPv4 and IPv6 networks, of which the longest match of an
-    address is found; with the calls of `pytricia`, for both families in one table.
+    address is found; with the calls of `pytricia` but for `freeze` and `thaw`, for both families in one table.
 
     A network is a str as "10.0.0.0/8", or an `ipaddress.IPv4Network` or `IPv6Network`. An address is a str, what `ipaddress`
-    makes, or 4 or 16 bytes, and a network of all its bits. `table[..]`, `get`, `get_many`, `get_key` and `in` find the longest
-    route that contains an address, or covers a network; `has_key`, `pop`, `del` and setting are of this very network. Networks
-    come out as str, those of IPv4 first, then by their first addresses, then the shorter ones first. IPv4 and IPv6 never
-    match each other. What is no network, or has a bit set behind its length, is a ValueError.
+    makes, or 4 or 16 bytes, and a network of all its bits. `table[..]`, `get`, `get_key` and `in` find the longest route that
+    contains an address, or covers a network, and `get_many` that of each address; `has_key`, `pop`, `del` and setting are of
+    this very network. Networks come out as str, those of IPv4 first, then by their first addresses, then the shorter ones
+    first. IPv4 and IPv6 never match each other. What is no network, or has a bit set behind its length, which `pytricia`
+    clears, is a ValueError. `children` and `parent` are also of a network without a route, for which `pytricia` has a KeyError.
 
     Routes may be set and removed during an iteration, which goes on behind the last network that it gave."""
 
@@ -284,6 +285,14 @@ class RouteTable(_core.Routes):
         """Sets the routes of a mapping or of pairs."""
         for network, value in other.items() if hasattr(other, "items") else other:
             self[network] = value
+
+    def insert(self, network, value):
+        """Sets the value of this very network."""
+        self[network] = value
+
+    def delete(self, network):
+        """Removes the route to this very network, else raises KeyError."""
+        del self[network]
 
     def __iter__(self):
         """The networks, in order."""
@@ -315,7 +324,7 @@ class RouteTable(_core.Routes):
     __hash__ = None
 
     def __reduce__(self):
-        return type(self), (), None, None, iter(self.items())
+        return type(self), (), getattr(self, "__dict__", None) or None, None, iter(self.items())
 
     @recursive_repr("RouteTable({...})")
     def __repr__(self):
