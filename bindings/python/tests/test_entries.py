@@ -1,7 +1,9 @@
 """What holds the entries: references, cycles, code that runs in the middle of a call, threads, refused memory."""
 
 import gc
+import os
 import random
+import subprocess
 import sys
 import threading
 import unittest
@@ -252,6 +254,32 @@ class References(Whole):
         self.assertEqual(list(walk), [])
 
 
+# In what `update` calls, the error of a key with a lone surrogate runs the collector, which drops that key. What is freed is
+# overwritten, as PYTHONMALLOC=debug says.
+EMPTIED = """
+import gc
+from verified_art import SortedMap
+
+class Empties:
+    def __del__(self):
+        pairs.clear()
+
+gc.set_threshold(0)
+for threshold in range(1, 40):
+    pairs = [(f"{number}\\ud800", number) for number in range(9)]
+    made = SortedMap()
+    gc.collect()
+    garbage = Empties()
+    garbage.itself = garbage
+    del garbage
+    gc.set_threshold(threshold)
+    made._set_each(pairs)
+    gc.set_threshold(0)
+    gc.collect()
+    assert not pairs and list(made) == [f"{number}\\ud800" for number in range(len(made))], made
+"""
+
+
 class CodeInTheMiddle(Whole):
     def test_a_value_that_changes_the_map_when_it_is_dropped(self):
         ends = (
@@ -306,6 +334,40 @@ class CodeInTheMiddle(Whole):
                 pass
         gc.set_threshold(0)
         self.assert_whole(made, dict(made.items()))
+
+    @unittest.skipUnless(IS_COMPILED, "the module is not compiled")
+    def test_a_collector_that_sets_an_entry_as_the_first_key_is_refused(self):
+        self.addCleanup(gc.set_threshold, *gc.get_threshold())
+        made = SortedMap()
+
+        def leave_garbage():
+            cycle = [OnEnd(lambda: made.__setitem__(1, "late"))]
+            cycle.append(cycle)
+
+        gc.collect()
+        gc.set_threshold(0)
+        try:
+            raise ZeroDivisionError
+        except ZeroDivisionError:
+            for _ in range(5):
+                leave_garbage()
+            # Here an error is an object at once, since it has another one as its context: so the collector runs.
+            gc.set_threshold(1)
+            try:
+                made[2**70] = 1
+            except OverflowError:
+                pass
+        gc.set_threshold(0)
+        gc.collect()
+        self.assert_whole(made, {1: "late"})
+        self.assertRaises(TypeError, made.__setitem__, b"a", 1)
+
+    @unittest.skipUnless(IS_COMPILED, "the module is not compiled")
+    def test_a_collector_that_empties_the_list_of_an_update(self):
+        run = subprocess.run(
+            [sys.executable, "-c", EMPTIED], env={**os.environ, "PYTHONPATH": os.pathsep.join(sys.path), "PYTHONMALLOC": "debug"}, check=False
+        )
+        self.assertEqual(run.returncode, 0)
 
     def test_an_update_that_stops_keeps_what_it_did(self):
         def pairs():

@@ -149,6 +149,12 @@ class Calls(unittest.TestCase):
         self.assertEqual(table.children("0.0.0.0/0"), ["10.0.0.0/8", "10.1.0.0/16"])
         self.assertEqual(list(table), ["10.0.0.0/8", "10.1.0.0/16", "2001:db8::/32"])
         self.assertTrue("10.9.9.9" in table and "::1" not in table and not table.has_key("10.9.9.9"))
+        table.delete("10.1.0.0/16")
+        self.assertEqual(table["10.1.2.3"], "office")
+        self.assertRaises(KeyError, table.delete, "10.1.0.0/16")
+        table.insert("10.1.0.0/16", "lab")
+        table.insert(network="10.1.0.0/16", value="other")
+        self.assertEqual((table["10.1.2.3"], len(table)), ("other", 3))
         del table["10.1.0.0/16"]
         self.assertEqual(table["10.1.2.3"], "office")
         self.assertRaises(KeyError, table.__delitem__, "10.1.0.0/16")
@@ -170,7 +176,8 @@ class Calls(unittest.TestCase):
         for key in bad:
             for call in calls:
                 self.assertRaises(ValueError, call, key)
-        self.assertRaises(ValueError, table.get_many, ["10.0.0.0/8"])
+        for network in ("10.0.0.0/8", ipaddress.ip_network("10.0.0.0/8")):
+            self.assertRaisesRegex(ValueError, "an address is needed", table.get_many, ["10.0.0.1", network])
         for key in (5, None, 1.5, ("10.0.0.0", 8)):
             for call in calls:
                 self.assertRaises(TypeError, call, key)
@@ -188,8 +195,20 @@ class Calls(unittest.TestCase):
             self.assertEqual(other, table)
             other["::/0"] = 2
             self.assertNotEqual(other, table)
+        class Named(RouteTable):
+            pass
+
+        made = Named(table)
+        made.name = "office"
+        for other in (copy.copy(made), copy.deepcopy(made)):
+            self.assertEqual((type(other), other.name, other), (Named, "office", table))
         self.assertEqual(repr(table), "RouteTable({'10.0.0.0/8': [1]})")
         self.assertRaises(TypeError, hash, table)
+
+    def test_a_network_without_a_route_has_children_and_a_parent(self):
+        table = RouteTable({"10.0.0.0/8": 1, "10.1.1.0/24": 2})
+        self.assertEqual((table.children("10.1.0.0/16"), table.parent("10.1.0.0/16")), (["10.1.1.0/24"], "10.0.0.0/8"))
+        self.assertEqual((table.children("11.0.0.0/8"), table.parent("11.0.0.0/8")), ([], None))
 
     def test_routes_may_change_during_an_iteration(self):
         table = RouteTable((f"10.{at}.0.0/16", at) for at in range(9))
@@ -234,6 +253,181 @@ class Calls(unittest.TestCase):
         table["::/0"] = Value()
         table.clear()
         self.assertEqual(table.items(), [("10.0.0.0/8", 0)])
+
+
+def calls_of(table):
+    """The calls that take one key."""
+    calls = [table.__getitem__, table.get, table.has_key, table.get_key, table.pop, table.delete, table.parent, table.children]
+    return [*calls, table.__contains__, lambda key: table.insert(key, "new"), lambda key: table.get_many(["10.9.9.9", key])]
+
+
+CHANGES = (
+    lambda table: table.clear(),
+    lambda table: table.update({"12.0.0.0/8": 12, "10.0.0.0/8": 10}),
+    lambda table: (table.clear(), table.update((f"13.{at}.0.0/16", at) for at in range(20))),
+    lambda table: [table.pop(network) for network in table],
+)
+
+
+class KeysOfOtherClasses(unittest.TestCase):
+    BEFORE = {"10.0.0.0/8": 1, "11.0.0.0/8": 2, "::/0": 3}
+
+    def assert_whole(self, table, due):
+        """The table has these routes, and takes more."""
+        for _ in range(2):
+            self.assertEqual(table.items(), due.items())
+            self.assertEqual((len(table), [table[it] for it in due]), (len(due), due.values()))
+            for at in range(12):
+                table[f"14.0.0.{at}"] = due[f"14.0.0.{at}"] = at
+
+    def test_a_key_that_changes_the_table_as_it_is_shown(self):
+        for change in CHANGES:
+            due = RouteTable(self.BEFORE)
+            change(due)
+            for at in range(len(calls_of(due))):
+                table = RouteTable(self.BEFORE)
+
+                class Shown(str):
+                    def __repr__(self):
+                        change(table)
+                        return "shown"
+
+                for text in ("10.0.0.1/8", "no network"):
+                    self.assertRaisesRegex(ValueError, "shown", calls_of(table)[at], Shown(text))
+                self.assert_whole(table, due.copy())
+
+    def test_a_key_that_changes_the_table_as_it_is_read(self):
+        for change in CHANGES:
+            for base, text in ((ipaddress.IPv4Network, "11.0.0.0/8"), (ipaddress.IPv4Address, "11.0.0.1")):
+                for at in range(len(calls_of(RouteTable()))):
+                    table, due = RouteTable(self.BEFORE), RouteTable(self.BEFORE)
+                    change(due)
+
+                    class Read(base):
+                        @property
+                        def prefixlen(self):
+                            change(table)
+                            return 8
+
+                        @property
+                        def packed(self):
+                            change(table)
+                            return base(text).packed
+
+                    outcomes = []
+                    for it, key in ((table, Read(text)), (due, text)):
+                        try:
+                            outcomes.append(calls_of(it)[at](key))
+                        except (KeyError, ValueError) as error:
+                            outcomes.append(type(error))
+                    self.assertEqual(*outcomes)
+                    self.assert_whole(table, due)
+
+    def test_a_key_that_changes_what_holds_it(self):
+        class Address:
+            @property
+            def packed(self):
+                for holder in gc.get_referrers(self):
+                    if type(holder) is list:
+                        holder.clear()
+                return bytes([10, 0, 0, 1])
+
+        table = RouteTable(self.BEFORE)
+        self.assertEqual(table.get_many([Address(), "11.0.0.1", Address(), "12.0.0.1"]), [1, 2, 1, None])
+
+    def test_a_key_of_a_subclass_is_what_it_holds(self):
+        class Bytes(bytes):
+            def __len__(self):
+                return 16
+
+            def __getitem__(self, index):
+                return b"other"
+
+            def __bytes__(self):
+                return bytes(16)
+
+        class Str(str):
+            def partition(self, _):
+                return "12.0.0.0", "/", "8"
+
+            def __contains__(self, _):
+                return True
+
+            def __str__(self):
+                return "12.0.0.0/8"
+
+        class Int(int):
+            def __lt__(self, other):
+                return False
+
+            __le__ = __gt__ = __ge__ = lambda self, other: True
+
+            def __index__(self):
+                return 3
+
+        class Address(ipaddress.IPv4Address):
+            packed = Bytes(b"\x0a\0\0\0")
+
+        class Network(ipaddress.IPv4Network):
+            network_address = Address("1.2.3.4")
+            prefixlen = Int(8)
+
+            def __init__(self):
+                pass
+
+        keys = {Bytes(b"\x0a\0\0\0"): "10.0.0.0/32", Address(7): "10.0.0.0/32", Str("10.0.0.0/9"): "10.0.0.0/9"}
+        for key, text in [*keys.items(), (Network(), "10.0.0.0/8")]:
+            table = RouteTable([(key, 1)])
+            self.assertEqual((table.items(), table[key], table.get_key(key)), ([(text, 1)], 1, text))
+            self.assertEqual((table.has_key(key), table.children(key), table.parent(key), table.pop(key)), (True, [], None, 1))
+        table = RouteTable({"10.0.0.0/8": 1})
+        self.assertEqual(table.get_many([Bytes(b"\x0a\0\0\0"), Address(7), Str("10.1.1.1")]), [1, 1, 1])
+        wrong = Network()
+        wrong.__class__.prefixlen = Int(33)
+        for call in calls_of(table):
+            self.assertRaises(ValueError, call, wrong)
+
+    def test_what_only_says_that_it_is_a_key_is_none(self):
+        for base in (str, bytes):
+
+            class Liar:
+                __class__ = base
+
+            for call in calls_of(RouteTable(self.BEFORE)):
+                self.assertRaises(TypeError, call, Liar())
+
+    def test_attributes_that_are_none_of_a_network(self):
+        class Named(type):
+            def __repr__(self):
+                return "named"
+
+        class Parts(metaclass=Named):
+            def __init__(self, packed, *prefixlen):
+                self.packed = packed
+                if prefixlen:
+                    self.network_address, self.prefixlen = self, *prefixlen
+
+        class Raises:
+            def __index__(self):
+                raise ZeroDivisionError
+
+            network_address = packed = property(__index__)
+
+        address = bytes([10, 0, 0, 0])
+        table = RouteTable(self.BEFORE)
+        self.assertEqual((table.has_key(Parts(address, 8)), table.get(Parts(address))), (True, 1))
+        without_length = Parts(address, 8)
+        del without_length.prefixlen
+        for call in calls_of(table):
+            for prefixlen in (264, 33, -1, 2**70, -(2**70), None, "8", 8.0):
+                self.assertRaises(ValueError, call, Parts(address, prefixlen))
+            for packed in ("abcd", bytearray(4), None, b"abc", b"", [1, 2, 3, 4]):
+                self.assertRaises(ValueError, call, Parts(packed))
+                self.assertRaises(ValueError, call, Parts(packed, 0))
+            self.assertRaises(ZeroDivisionError, call, Parts(address, Raises()))
+            self.assertRaises(ZeroDivisionError, call, Raises())
+            self.assertRaisesRegex(TypeError, "not named", call, without_length)
+        self.assert_whole(table, RouteTable(self.BEFORE))
 
 
 if __name__ == "__main__":

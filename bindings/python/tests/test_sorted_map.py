@@ -117,6 +117,15 @@ class Types(unittest.TestCase):
         self.assertRaises(TypeError, SortedMap().__setitem__, Liar(), 1)
         self.assertRaises(TypeError, SortedMap({b"a": 1}).__getitem__, Liar())
 
+    def test_a_type_may_have_any_name(self):
+        class Named(type):
+            __name__ = property(lambda it: 5)
+
+        class Key(metaclass=Named):
+            pass
+
+        self.assertRaisesRegex(TypeError, "not 5", SortedMap().__setitem__, Key(), 1)
+
     def test_an_int_has_no_prefix(self):
         self.assertRaises(TypeError, SortedMap({1: 2}).prefix, 1)
         self.assertRaises(TypeError, SortedMap({1: 2}).count_prefix, 1)

@@ -8,6 +8,7 @@ import socket
 from array import array
 from ctypes import PyDLL, addressof, byref, c_bool, c_char_p, c_size_t, c_uint8, c_uint32, c_uint64, c_void_p, create_string_buffer
 from itertools import accumulate, islice
+from operator import index
 from pathlib import Path
 from sys import getsizeof
 
@@ -574,31 +575,50 @@ def _no_network(key):
     )
 
 
+def _read_text(text):
+    """The bytes and the length of an address, alone or with a `/` and a length; None where it is none."""
+    address, slash, length = text.partition("/")
+    try:
+        packed = socket.inet_pton(socket.AF_INET6 if ":" in address else socket.AF_INET, address)
+    except (OSError, ValueError):
+        return None
+    bits = 8 * len(packed)
+    if not slash:
+        return packed, bits
+    is_length = 1 <= len(length) <= 3 and length.isascii() and length.isdigit() and int(length) <= bits
+    return (packed, int(length)) if is_length else None
+
+
+def _read_parts(packed, *prefixlen):
+    """The bytes of an address, and the length or all their bits; None where they are none."""
+    if not issubclass(type(packed), bytes):
+        return None
+    packed = bytes.__getitem__(packed, slice(None))
+    bits = 8 * len(packed)
+    try:
+        length = index(*prefixlen) if prefixlen else bits
+    except TypeError:
+        return None
+    return (packed, length) if bits in (32, 128) and 0 <= length <= bits else None
+
+
 def _read_net(key):
-    """The bytes and the length of a network or an address: a str, bytes, or what `ipaddress` makes."""
-    if isinstance(key, str):
-        address, slash, length = key.partition("/")
-        try:
-            packed = socket.inet_pton(socket.AF_INET6 if ":" in address else socket.AF_INET, address)
-        except (OSError, ValueError):
-            raise _no_network(key) from None
-        bits = 8 * len(packed)
-        if not slash:
-            return packed, bits
-        if not (1 <= len(length) <= 3 and length.isascii() and length.isdigit() and int(length) <= bits):
-            raise _no_network(key)
-        return packed, int(length)
-    if isinstance(key, bytes):
-        packed, bits = key, 8 * len(key)
-    elif hasattr(key, "network_address"):
-        packed, bits = key.network_address.packed, key.prefixlen
-    elif hasattr(key, "packed"):
-        packed, bits = key.packed, 8 * len(key.packed)
+    """The bytes and the length of a network or an address: a str, bytes, or what `ipaddress` makes. Those of a subclass
+    are what it holds, whose methods may say anything; and its attributes may run any code."""
+    if issubclass(type(key), str):
+        net = _read_text(str.__str__(key))
+    elif issubclass(type(key), bytes):
+        net = _read_parts(key)
     else:
-        raise TypeError(f"a network is a str, or of `ipaddress`, and not {type(key)!r}")
-    if len(packed) not in (4, 16):
+        try:
+            is_network = hasattr(key, "network_address")
+            parts = (key.network_address.packed, key.prefixlen) if is_network else (key.packed,)
+        except AttributeError:
+            raise TypeError(f"a network is a str, or of `ipaddress`, and not {type(key)!r}") from None
+        net = _read_parts(*parts)
+    if net is None:
         raise _no_network(key)
-    return packed, bits
+    return net
 
 
 def _cut(packed, length):
@@ -646,11 +666,10 @@ class Routes:
             raise _no_network(key)
         return _is_found(status)
 
-    def _call(self, call, key, *more):
+    def _call(self, call, key, packed, length):
         """What a call for one very network finds."""
-        packed, length = _read_net(key)
         place = c_uint64()
-        return place.value if self._found(call(self._table, packed, len(packed), length, *more, byref(place)), key) else None
+        return place.value if self._found(call(self._table, packed, len(packed), length, byref(place)), key) else None
 
     def _around(self, key, most):
         """The address, the length, and the lengths and places of the routes around a network, the longest first."""
@@ -675,14 +694,14 @@ class Routes:
         return bool(self._around(key, 1)[2])
 
     def get_many(self, addresses, default=None):
-        """The values of many addresses, as `get` finds each, in a list."""
-        addresses = list(addresses)
+        """The values of many addresses, which are no networks, as `get` finds each, in a list."""
+        addresses = tuple(addresses)
         values = [default] * len(addresses)
         by_width = {4: [], 16: []}
         for at, key in enumerate(addresses):
             packed, length = _read_net(key)
             if length != 8 * len(packed):
-                raise _no_network(key)
+                raise ValueError(f"an address is needed, and not the network {key!r}")
             by_width[len(packed)].append((at, packed))
         for width, family in by_width.items():
             many = len(family)
@@ -703,25 +722,25 @@ class Routes:
         return value
 
     def __setitem__(self, key, value):
+        (packed, length), before = _read_net(key), c_uint64()
         if self._free:
             place = self._free.pop()
             self._values[place] = value
         else:
             place = len(self._values)
             self._values.append(value)
-        try:
-            before = self._call(_library.art_routes_insert, key, place)
-        except BaseException:
+        status = _library.art_routes_insert(self._table, packed, len(packed), length, place, byref(before))
+        # The place is free again before an error shows the key, by code of its own.
+        if status > _SOME:
             self._taken(place)
-            raise
-        if before is not None:
-            self._taken(before)
+        if self._found(status, key):
+            self._taken(before.value)
 
     def pop(self, key, *default):
         """Removes the route to this very network and returns its value, else the default, else raises KeyError."""
         if len(default) > 1:
             raise TypeError("pop takes a network and at most a default")
-        place = self._call(_library.art_routes_remove, key)
+        place = self._call(_library.art_routes_remove, key, *_read_net(key))
         if place is not None:
             return self._taken(place)
         if default:
@@ -752,7 +771,7 @@ class Routes:
 
     def has_key(self, key):
         """Whether there is a route to this very network."""
-        return self._call(_library.art_routes_get, key) is not None
+        return self._call(_library.art_routes_get, key, *_read_net(key)) is not None
 
     def parent(self, key):
         """The network of the longest route around a network, but for the one to it, or None."""
@@ -762,9 +781,10 @@ class Routes:
 
     def _walk(self, given, key):
         """The routes inside a network, or all where it is None."""
-        if key is not None:
-            self._call(_library.art_routes_get, key)
-        return self._steps(given, None if key is None else _read_net(key))
+        within = None if key is None else _read_net(key)
+        if within:
+            self._call(_library.art_routes_get, key, *within)
+        return self._steps(given, within)
 
     def _steps(self, given, within):
         at, length = within or (bytes(4), 0)

@@ -201,10 +201,6 @@ static int set_value(Entry *entry, PyObject *value) {
 }
 
 static int set_sought(Core *self, PyObject *key, const Sought *sought, PyObject *value) {
-    if (sought->outside) {
-        PyErr_SetString(PyExc_OverflowError, "an int of a SortedMap has 64 bits");
-        return -1;
-    }
     if (self->was_there) {
         size_t place;
         int found = find_key(self, sought, &place);
@@ -220,11 +216,16 @@ static int set_sought(Core *self, PyObject *key, const Sought *sought, PyObject 
 static int set_item(Core *self, PyObject *key, PyObject *value) {
     Sought sought;
     if (read_for(self, key, &sought) < 0) return -1;
+    if (sought.outside) {
+        PyErr_SetString(PyExc_OverflowError, "an int of a SortedMap has 64 bits");
+        return -1;
+    }
     bool is_first = self->kind == NO_KEYS;
     int done = is_first ? make_map(self, kind_of(key)) : 0;
     if (done == 0) {
         done = set_sought(self, key, &sought, value);
-        if (done < 0 && is_first) free_map(self);
+        /* The code that an error ran may have set other keys. */
+        if (done < 0 && is_first && self->order.count == 0) free_map(self);
     }
     let_go(&sought);
     return done;
@@ -247,25 +248,25 @@ static void let_go_loaded(Loaded *loaded) {
 }
 
 /* Reads the key of the pair at an index, where it is one of exactly this type that the library takes, and no memory of its
-   own is needed for it. */
-static bool read_pair(Kind kind, PyObject *pairs, Py_ssize_t at, PyObject **pair, Sought *sought) {
-    *pair = PyList_GetItem(pairs, at);
-    if (!*pair || !PyTuple_CheckExact(*pair) || PyTuple_Size(*pair) != 2) return false;
-    PyObject *key = PyTuple_GetItem(*pair, 0);
+   own is needed for it. Where it is not, an error that is made may run any code, which may empty the list. */
+static bool read_pair(Kind kind, PyObject *pairs, Py_ssize_t at, Sought *sought) {
+    PyObject *pair = PyList_GetItem(pairs, at);
+    if (!pair || !PyTuple_CheckExact(pair) || PyTuple_Size(pair) != 2) return false;
+    PyObject *key = PyTuple_GetItem(pair, 0);
     if (!(kind == STR_KEYS ? PyUnicode_CheckExact(key) : kind == INT_KEYS ? PyLong_CheckExact(key) : PyBytes_CheckExact(key))) return false;
-    if (read_key(kind, key, sought) < 0) return false;
-    bool own = sought->owner;
+    Py_INCREF(key);
+    bool done = read_key(kind, key, sought) == 0 && !sought->owner && !sought->outside;
     let_go(sought);
-    return !own && !sought->outside;
+    Py_DECREF(key);
+    return done;
 }
 
 /* Gathers the keys of pairs. */
 static bool gather(Kind kind, PyObject *pairs, Py_ssize_t count, Loaded *loaded) {
-    PyObject *pair;
     Sought sought;
     size_t len = 0, at = 0;
     for (Py_ssize_t i = 0; i < count; i++) {
-        if (!read_pair(kind, pairs, i, &pair, &sought)) return false;
+        if (!read_pair(kind, pairs, i, &sought)) return false;
         len += sought.len;
     }
     loaded->places = PyMem_Calloc((size_t)count, sizeof *loaded->places);
@@ -278,7 +279,7 @@ static bool gather(Kind kind, PyObject *pairs, Py_ssize_t count, Loaded *loaded)
     bool has_memory = loaded->places && (kind == INT_KEYS ? loaded->numbers != NULL : loaded->bytes && loaded->ends);
     if (!has_memory) return false;
     for (Py_ssize_t i = 0; i < count; i++) {
-        if (!read_pair(kind, pairs, i, &pair, &sought) || sought.len > len - at) return false;
+        if (!read_pair(kind, pairs, i, &sought) || sought.len > len - at) return false;
         loaded->places[i] = (uint64_t)i;
         if (kind == INT_KEYS) {
             loaded->numbers[i] = sought.number;

@@ -25,7 +25,7 @@ static Kind kind_of(PyObject *key) {
     if (PyLong_Check(key)) return INT_KEYS;
     if (PyBytes_Check(key)) return BYTES_KEYS;
     PyObject *name = PyObject_GetAttrString((PyObject *)Py_TYPE(key), "__name__");
-    if (name) PyErr_Format(PyExc_TypeError, "a key of a SortedMap is bytes, str or int, and not %U", name);
+    if (name) PyErr_Format(PyExc_TypeError, "a key of a SortedMap is bytes, str or int, and not %S", name);
     Py_XDECREF(name);
     return NO_KEYS;
 }

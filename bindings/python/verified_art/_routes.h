@@ -84,32 +84,53 @@ static int read_bytes(PyObject *key, PyObject *bytes, Net *net) {
     return 0;
 }
 
-/* Reads a network or an address: a str, bytes, or what `ipaddress` makes, whose attributes may run any code. */
+/* -1 with an error set, as an attribute is not there. Another error of it stands. */
+static int no_attribute(PyObject *key) {
+    if (PyErr_ExceptionMatches(PyExc_AttributeError)) {
+        PyErr_Clear();
+        PyErr_Format(PyExc_TypeError, "a network is a str, or of `ipaddress`, and not %R", (PyObject *)Py_TYPE(key));
+    }
+    return -1;
+}
+
+static int read_length(PyObject *key, Net *net) {
+    PyObject *prefixlen = PyObject_GetAttrString(key, "prefixlen");
+    if (!prefixlen) return no_attribute(key);
+    long length = PyLong_AsLong(prefixlen);
+    Py_DECREF(prefixlen);
+    if (length == -1 && PyErr_Occurred()) {
+        if (!PyErr_ExceptionMatches(PyExc_TypeError) && !PyErr_ExceptionMatches(PyExc_OverflowError)) return -1;
+        PyErr_Clear();
+    }
+    if (length < 0 || length > (long)bits_of(net)) return no_network(key);
+    net->length = (unsigned)length;
+    return 0;
+}
+
+/* Reads a network or an address: a str, bytes, or what `ipaddress` makes, whose attributes may run any code. So may each
+   error that shows a key: a call makes it once the table is whole. */
 static int read_net(PyObject *key, Net *net) {
     if (PyUnicode_Check(key)) return read_text(key, net);
     if (PyBytes_Check(key)) return read_bytes(key, key, net);
-    PyObject *network = PyObject_GetAttrString(key, "network_address"), *packed;
-    if (!network) PyErr_Clear();
-    packed = PyObject_GetAttrString(network ? network : key, "packed");
-    if (!packed) {
-        Py_XDECREF(network);
-        PyErr_Format(PyExc_TypeError, "a network is a str, or of `ipaddress`, and not %R", (PyObject *)Py_TYPE(key));
-        return -1;
+    PyObject *network = PyObject_GetAttrString(key, "network_address");
+    if (!network) {
+        if (!PyErr_ExceptionMatches(PyExc_AttributeError)) return -1;
+        PyErr_Clear();
     }
-    int done = read_bytes(key, packed, net);
-    Py_DECREF(packed);
-    if (done == 0 && network) {
-        PyObject *prefixlen = PyObject_GetAttrString(key, "prefixlen");
-        long length = prefixlen ? PyLong_AsLong(prefixlen) : -1;
-        Py_XDECREF(prefixlen);
-        if (length < 0 || length > (long)bits_of(net)) {
-            PyErr_Clear();
-            done = no_network(key);
-        }
-        net->length = (unsigned)length;
-    }
+    PyObject *packed = PyObject_GetAttrString(network ? network : key, "packed");
+    int done = packed ? read_bytes(key, packed, net) : no_attribute(key);
+    if (done == 0 && network) done = read_length(key, net);
+    Py_XDECREF(packed);
     Py_XDECREF(network);
     return done;
+}
+
+/* Reads an address. */
+static int read_address(PyObject *key, Net *net) {
+    if (read_net(key, net) < 0) return -1;
+    if (net->length == bits_of(net)) return 0;
+    PyErr_Format(PyExc_ValueError, "an address is needed, and not the network %R", key);
+    return -1;
 }
 
 /* Leaves the first bits, so many of them. */
@@ -268,13 +289,13 @@ static int routes_set_item(Routes *self, PyObject *key, PyObject *value) {
     if (read_net(key, &net) < 0 || take_place(self, &place) < 0) return -1;
     Py_INCREF(value);
     self->values[place] = value;
-    int found = route_found(art_routes_insert(&self->table, net.address, net.width, (uint8_t)net.length, place, &place_before), key);
-    if (found < 0) {
+    uint32_t status = art_routes_insert(&self->table, net.address, net.width, (uint8_t)net.length, place, &place_before);
+    if (status > ART_SOME) {
         free_at(self, place);
         Py_DECREF(value);
-        return -1;
+        return route_found(status, key);
     }
-    if (found == 1) {
+    if (status == ART_SOME) {
         before = self->values[place_before];
         free_at(self, place_before);
     } else {
@@ -347,9 +368,10 @@ static PyObject *routes_get_many(Routes *self, PyObject *const *arguments, Py_ss
         PyErr_SetString(PyExc_TypeError, "get_many takes addresses and a default");
         return NULL;
     }
-    PyObject *other = positional + named == 2 ? arguments[1] : Py_None, *list = PySequence_List(arguments[0]);
-    Py_ssize_t size = list ? PyList_Size(list) : 0;
-    PyObject *values = list ? PyList_New(size) : NULL;
+    /* A tuple keeps its keys, whatever code their attributes run. */
+    PyObject *other = positional + named == 2 ? arguments[1] : Py_None, *keys = PySequence_Tuple(arguments[0]);
+    Py_ssize_t size = keys ? PyTuple_Size(keys) : 0;
+    PyObject *values = keys ? PyList_New(0) : NULL;
     for (Py_ssize_t done = 0; values && done < size;) {
         uint8_t addresses[16 * MANY], lengths[MANY];
         uint64_t places[MANY];
@@ -357,10 +379,8 @@ static PyObject *routes_get_many(Routes *self, PyObject *const *arguments, Py_ss
         Net net;
         /* As many as are of one family. */
         for (; many < MANY && done + (Py_ssize_t)many < size; many++) {
-            PyObject *key = PyList_GetItem(list, done + (Py_ssize_t)many);
-            if (read_net(key, &net) < 0 || (net.length != bits_of(&net) && no_network(key) < 0)) {
-                Py_DECREF(values);
-                values = NULL;
+            if (read_address(PyTuple_GetItem(keys, done + (Py_ssize_t)many), &net) < 0) {
+                Py_CLEAR(values);
                 break;
             }
             if (many == 0) width = net.width;
@@ -369,13 +389,10 @@ static PyObject *routes_get_many(Routes *self, PyObject *const *arguments, Py_ss
         }
         if (!values) break;
         art_routes_longest_match_many(&self->table, addresses, many * width, width, lengths, many, places, many, &count);
-        for (size_t at = 0; at < many; at++, done++) {
-            PyObject *value = lengths[at] == ART_NO_ROUTE ? other : self->values[places[at]];
-            Py_INCREF(value);
-            PyList_SetItem(values, done, value);
-        }
+        for (size_t at = 0; values && at < many; at++, done++)
+            if (PyList_Append(values, lengths[at] == ART_NO_ROUTE ? other : self->values[places[at]]) < 0) Py_CLEAR(values);
     }
-    Py_XDECREF(list);
+    Py_XDECREF(keys);
     return values;
 }
 
@@ -427,7 +444,7 @@ static PyObject *routes_walk(Routes *self, PyObject *arguments) {
 static PyObject *route_walk_next(RouteWalk *self) {
     Routes *routes = self->routes;
     Net *at = &self->at;
-    uint8_t length;
+    uint8_t length = 0;
     uint64_t place;
     if (!routes) return NULL;
     uint32_t status = art_routes_next(&routes->table, at->address, at->width, (uint8_t)at->length, !self->begun, at->address, 16, &at->width,
@@ -514,7 +531,7 @@ static void routes_dealloc(Routes *self) {
 
 static PyMethodDef routes_methods[] = {
     {"get", (PyCFunction)(void (*)(void))routes_get, METH_FASTCALL | METH_KEYWORDS, "The value of the longest route around an address or a network, or the default."},
-    {"get_many", (PyCFunction)(void (*)(void))routes_get_many, METH_FASTCALL | METH_KEYWORDS, "The values of many addresses, as `get` finds each, in a list."},
+    {"get_many", (PyCFunction)(void (*)(void))routes_get_many, METH_FASTCALL | METH_KEYWORDS, "The values of many addresses, which are no networks, as `get` finds each, in a list."},
     {"get_key", (PyCFunction)routes_get_key, METH_O, "The network of the longest route around an address or a network, or None."},
     {"has_key", (PyCFunction)routes_has_key, METH_O, "Whether there is a route to this very network."},
     {"parent", (PyCFunction)routes_parent, METH_O, "The network of the longest route around a network, but for the one to it, or None."},
