@@ -73,7 +73,7 @@ class BesideAList(unittest.TestCase):
                 self.assertRaises(ValueError, view.__getitem__, slice(None, None, 0))
                 for it in due[:5]:
                     self.assertEqual((it in view, view.count(it)), (True, 1))
-                self.assertEqual(view.count(object()) if view is made.values() else 0, 0)
+                self.assertEqual(view.count(object()) if due is values else 0, 0)
 
     def test_views_are_those_of_a_dict(self):
         made, due = SortedMap({"a": 1, "b": 2}), {"a": 1, "b": 2}
