@@ -1,6 +1,7 @@
 """What holds the entries: references, cycles, code that runs in the middle of a call, threads, refused memory."""
 
 import gc
+import ipaddress
 import os
 import random
 import subprocess
@@ -9,7 +10,7 @@ import threading
 import unittest
 import weakref
 
-from verified_art import SortedMap
+from verified_art import RouteTable, SortedMap
 
 try:
     from _testcapi import remove_mem_hooks, set_nomemory
@@ -449,6 +450,38 @@ class RefusedMemory(Whole):
                 for call in (made.items, made.copy, lambda made=made: list(made.items()), lambda made=made: list(made.irange())):
                     for _ in self.refused_in_turn(call):
                         self.assert_whole(made, due)
+
+    def test_refused_objects_change_no_route(self):
+        class Address:
+            packed = b"\x0a\0\0\1"
+
+        class Network:
+            network_address, prefixlen = Address(), 31
+
+        table = RouteTable((f"10.0.{at}.0/24", at) for at in range(8))
+        due, keys = table.items(), ("11.0.0.0/8", "::/0", bytes(4), Address(), ipaddress.ip_network("12.0.0.0/8"))
+        for key in keys:
+            for _ in self.refused_in_turn(lambda key=key: table.__setitem__(key, "new")):
+                self.assertIn(len(table), (8, 9))
+                table.pop(key, None)
+                self.assertEqual(table.items(), due)
+        reads = (table.items, table.copy, lambda: table.children("10.0.0.0/8"), lambda: table.get_many([Address(), "10.0.1.1"] * 20))
+        for call in reads:
+            for _ in self.refused_in_turn(call):
+                self.assertEqual(table.items(), due)
+        for key in ("\u0661", "\ud800", "10.0.0.1/8", Network()):
+            outcomes = set()
+
+            def insert(key=key, outcomes=outcomes):
+                try:
+                    table[key] = "new"
+                except (ValueError, MemoryError) as error:
+                    outcomes.add(type(error))
+                    raise MemoryError from error
+
+            for _ in zip(self.refused_in_turn(insert), range(50)):
+                self.assertEqual(table.items(), due)
+            self.assertEqual(outcomes, {ValueError, MemoryError})
 
     def test_a_refused_load_sets_the_first_ones_or_none(self):
         for keys in ([f"key {number:03}" for number in range(300)], [b"%03d" % number for number in range(300)], list(range(300))):

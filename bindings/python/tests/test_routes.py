@@ -17,7 +17,8 @@ try:
     import radix
 except ImportError:
     radix = None
-
+# By ctypes a call is several steps, which the collector may part.
+IS_COMPILED = RouteTable.__base__.__module__ == "verified_art._in_c"
 CALLS = int(os.environ.get("ROUTE_CALLS", 20000))
 
 
@@ -322,6 +323,44 @@ class KeysOfOtherClasses(unittest.TestCase):
                             outcomes.append(type(error))
                     self.assertEqual(*outcomes)
                     self.assert_whole(table, due)
+
+    @unittest.skipUnless(IS_COMPILED, "the module is not compiled")
+    def test_a_collector_that_changes_the_table(self):
+        self.addCleanup(gc.set_threshold, *gc.get_threshold())
+        rng, table = random.Random(12), RouteTable()
+
+        def change():
+            table.pop(some_network(rng, table.keys()), None)
+            table.insert(some_network(rng, ()), 1)
+
+        class Garbage:
+            def __init__(self):
+                self.itself = self
+
+            def __del__(self):
+                change()
+
+        for number in range(2000):
+            gc.set_threshold(1 + number % 5)
+            Garbage()
+            key = some_network(rng, ())
+            table[key] = number
+            for call in (table.items, table.copy, lambda key=key: table.children(key), lambda: table.get_many(["10.0.0.1", "::1"] * 9)):
+                call()
+            try:
+                table.insert("10.0.0.1/8", 1)
+            except ValueError:
+                table.pop(key, None)
+        gc.set_threshold(0)
+        gc.collect()
+        self.assert_whole(table, table.copy())
+
+    def test_a_long_chain_of_tables_is_dropped(self):
+        table = RouteTable()
+        for _ in range(50_000):
+            table = RouteTable({"::/0": table})
+            table["10.0.0.0/8"] = iter(table.get("::1"))
+        del table
 
     def test_a_key_that_changes_what_holds_it(self):
         class Address:

@@ -160,9 +160,9 @@ class _Bytes(_Table):
     def get_many(self, stored):
         """The place of each of these keys, or None."""
         keys, (_ends, *ends), (places, *into) = b"".join(stored), _words(accumulate(map(len, stored))), _words([0] * len(stored))
-        found = bytes(len(stored))
+        found = create_string_buffer(len(stored))
         _is_found(_library.art_bytes_get_many(self.map, keys, len(keys), *ends, found, len(found), *into, byref(c_size_t())))
-        return [place if it else None for it, place in zip(found, places)]
+        return [place if it else None for it, place in zip(found.raw, places)]
 
     def insert_many(self, stored, places):
         """Inserts entries one after another. How many are in, and the status."""
@@ -293,9 +293,9 @@ class _Int(_Table):
 
     def get_many(self, stored):
         """The place of each of these keys, or None."""
-        (_keys, *keys), (places, *into), found = _words(stored), _words([0] * len(stored)), bytes(len(stored))
+        (_keys, *keys), (places, *into), found = _words(stored), _words([0] * len(stored)), create_string_buffer(len(stored))
         _library.art_u64_get_many(self.map, *keys, found, len(found), *into)
-        return [place if it else None for it, place in zip(found, places)]
+        return [place if it else None for it, place in zip(found.raw, places)]
 
     def insert_many(self, stored, places):
         """Inserts entries one after another. How many are in, and the status."""

@@ -44,6 +44,8 @@ static int read_text(PyObject *key, Net *net) {
     Py_ssize_t size;
     const char *text = PyUnicode_AsUTF8AndSize(key, &size);
     if (!text) {
+        /* Lone surrogates. */
+        if (!PyErr_ExceptionMatches(PyExc_UnicodeEncodeError)) return -1;
         PyErr_Clear();
         return no_network(key);
     }
