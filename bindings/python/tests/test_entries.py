@@ -365,9 +365,8 @@ class CodeInTheMiddle(Whole):
 
     @unittest.skipUnless(IS_COMPILED, "the module is not compiled")
     def test_a_collector_that_empties_the_list_of_an_update(self):
-        run = subprocess.run(
-            [sys.executable, "-c", EMPTIED], env={**os.environ, "PYTHONPATH": os.pathsep.join(sys.path), "PYTHONMALLOC": "debug"}, check=False
-        )
+        environment = {**os.environ, "PYTHONPATH": os.pathsep.join(sys.path), "PYTHONMALLOC": "debug"}
+        run = subprocess.run([sys.executable, "-c", EMPTIED], env=environment, check=False)
         self.assertEqual(run.returncode, 0)
 
     def test_an_update_that_stops_keeps_what_it_did(self):
@@ -465,8 +464,8 @@ class RefusedMemory(Whole):
                 self.assertIn(len(table), (8, 9))
                 table.pop(key, None)
                 self.assertEqual(table.items(), due)
-        reads = (table.items, table.copy, lambda: table.children("10.0.0.0/8"), lambda: table.get_many([Address(), "10.0.1.1"] * 20))
-        for call in reads:
+        many = [Address(), "10.0.1.1"] * 20
+        for call in (table.items, table.copy, lambda: table.children("10.0.0.0/8"), lambda: table.get_many(many)):
             for _ in self.refused_in_turn(call):
                 self.assertEqual(table.items(), due)
         for key in ("\u0661", "\ud800", "10.0.0.1/8", Network()):
