@@ -1,5 +1,5 @@
 //! Route tables with 64-bit values.
-ghost use Rattle.std.specs.Prelude.{◌≡◌, ◌≢◌, ◌*◌, ◌/◌, ◌<◌, ℕ, true, false, [], None, IfErr, IfNone, IfOk, IfSome, MatchOption, OnErr, OnOk, drop, get_or, length as list_length, min, take};
+ghost use Rattle.std.specs.Prelude.{◌≡◌, ◌≢◌, ◌*◌, ◌/◌, ◌<◌, ℕ, true, false, [], None, IfErr, IfNone, IfOk, IfSome, MatchOption, Err, OnErr, OnOk, drop, get_or, length as list_length, min, take};
 ghost use Rattle.std.specs.Option.{option_map};
 ghost use Rattle.art_routes.specs.Networks.{address_of, network_around};
 ghost use Rattle.art_routes.specs.Tables.{IsLongest, NoneContains, covering as covering_routes, put_route, value_of, without_route};
