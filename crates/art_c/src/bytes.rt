@@ -1,5 +1,5 @@
 //! The exports for maps by bytes.
-ghost use Rattle.std.specs.Prelude.{All, ◌≡◌, ◌≢◌, ◌-◌, ◌^◌, ◌<◌, ◌≤◌, ◌⊎◌, ◌↔◌, [], None, Some, IfNone, IfSome, IsSome, drop, get_or, length, min, nat_le, reverse, take, if◌then◌else◌};
+ghost use Rattle.std.specs.Prelude.{All, ◌≡◌, ◌≢◌, ◌-◌, ◌^◌, ◌<◌, ◌≤◌, ◌⊎◌, ◌↔◌, [], None, Some, IfNone, IfSome, IsSome, drop, get_or, length, min, nat_le, reverse, take, true, if◌then◌else◌};
 ghost use Rattle.std.specs.List.{zip};
 ghost use Rattle.std.specs.Option.{option_map};
 ghost use Rattle.art_bytes.specs.Text.{text_order};
@@ -9,7 +9,7 @@ ghost use Rattle.art_c.specs.Statuses.{ART_HAS_MAP, ART_KEY_TOO_LONG, ART_NONE, 
 ghost use Rattle.art_c_maps.specs.Batch.{ends_of, joined, next_fitting, previous_fitting, unfit_len};
 ghost use Rattle.art_c_maps.specs.Entries.{begun_with, entries_from, entries_to, entries_with_prefix, first_of, keys_of, last_of, put, put_each, value_of, values_of, without};
 ghost use Rattle.art_c_maps.specs.Many.{are_found, cut, found_values};
-ghost use Rattle.art_c_maps.specs.Unescaped.{key_written};
+ghost use Rattle.art_c_maps.specs.Unescaped.{key_fits, key_written};
 
 use crate::bytes_handle::BytesHandle;
 use crate::bytes_view::BytesView;
@@ -558,6 +558,8 @@ pub extern "C" fn art_bytes_pop_first(
         key_len.new ≡ key_len_or (first_of (entries_of map.old.held)) key_len.old }
     ensures value { IsDone result → value.new
         ≡ value_in (first_of (entries_of map.old.held)) (length key_out.old) value.old }
+    ensures refused_for_memory { result ≡ ART_NO_MEMORY →
+        key_fits (first_of (entries_of map.old.held)) (length key_out.old) ≡ true }
     ensures refused { IsRefusal result → (key_out.new ≡ key_out.old)
         × (key_len.new ≡ key_len.old) × (value.new ≡ value.old) }
 {
@@ -591,6 +593,8 @@ pub extern "C" fn art_bytes_pop_last(
         key_len.new ≡ key_len_or (last_of (entries_of map.old.held)) key_len.old }
     ensures value { IsDone result → value.new
         ≡ value_in (last_of (entries_of map.old.held)) (length key_out.old) value.old }
+    ensures refused_for_memory { result ≡ ART_NO_MEMORY →
+        key_fits (last_of (entries_of map.old.held)) (length key_out.old) ≡ true }
     ensures refused { IsRefusal result → (key_out.new ≡ key_out.old)
         × (key_len.new ≡ key_len.old) × (value.new ≡ value.old) }
 {

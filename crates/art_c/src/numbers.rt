@@ -1,5 +1,5 @@
 //! The exports for maps by numbers.
-ghost use Rattle.std.specs.Prelude.{◌≡◌, ◌≢◌, ◌-◌, ◌<◌, ◌⊎◌, ◌↔◌, [], None, Some, IfOk, IsSome, OnErr, drop, length, min, take};
+ghost use Rattle.std.specs.Prelude.{◌≡◌, ◌≢◌, ◌-◌, ◌<◌, ◌⊎◌, ◌↔◌, [], None, Some, IfOk, IsSome, OnErr, drop, get_or, length, min, take};
 ghost use Rattle.std.specs.List.{zip};
 ghost use Rattle.std.specs.Option.{option_map};
 ghost use Rattle.std.specs.Ordering.{nat_cmp};
@@ -300,6 +300,7 @@ pub extern "C" fn art_u64_pop_first(map: &mut NumberHandle, key: &mut u64, value
         key.new ≡ number_or (first_of (entries_of map.old.held)) key.old }
     ensures value { IsDone result →
         value.new ≡ value_or (first_of (entries_of map.old.held)) value.old }
+    ensures refused_for_memory { result ≡ ART_NO_MEMORY → entries_of map.old.held ≢ [] }
     ensures refused { IsRefusal result →
         (map.new.held ≡ map.old.held) × (key.new ≡ key.old) × (value.new ≡ value.old) }
 {
@@ -323,6 +324,7 @@ pub extern "C" fn art_u64_pop_last(map: &mut NumberHandle, key: &mut u64, value:
         key.new ≡ number_or (last_of (entries_of map.old.held)) key.old }
     ensures value { IsDone result →
         value.new ≡ value_or (last_of (entries_of map.old.held)) value.old }
+    ensures refused_for_memory { result ≡ ART_NO_MEMORY → entries_of map.old.held ≢ [] }
     ensures refused { IsRefusal result →
         (map.new.held ≡ map.old.held) × (key.new ≡ key.old) × (value.new ≡ value.old) }
 {
@@ -426,6 +428,8 @@ pub extern "C" fn art_u64_insert_many(
     ensures status { IsDone result → result ≡ ART_NONE }
     ensures all { IsDone result → done.new ≡ length (zip keys.now values.now) }
     ensures stopped { result ≡ ART_NO_MEMORY → done.new < length (zip keys.now values.now) }
+    ensures no_entry { result ≡ ART_NO_MEMORY →
+        value_of nat_cmp (entries_of map.new.held) (get_or keys.now done.new 0) ≡ None }
     ensures unchanged { result ≡ ART_NO_MAP →
         (map.new.held ≡ map.old.held) × (done.new ≡ done.old) }
 {

@@ -1,5 +1,5 @@
 -- An entry that was found, read as key and value.
-use Rattle.std.proofs.Common.{◌≡◌, ◌≤◌, ◌∙◌, Bool, filter, ◌-◌, ℕ, List, [], ◌∷◌, ◌++◌, length, drop, reverse, take, Option, Some, None, IfSome, IfNone, Result, Ok, Err, IfOk, OnOk, OnErr, refl, sym, ap, subst, arith, length-append}
+use Rattle.std.proofs.Common.{◌≡◌, ◌≢◌, ◌≤◌, ◌∙◌, Bool, filter, ◌-◌, ℕ, List, [], ◌∷◌, ◌++◌, length, drop, reverse, take, Option, Some, None, IfSome, IfNone, Result, Ok, Err, IfOk, OnOk, OnErr, refl, sym, ap, subst, arith, length-append}
 use Rattle.std.specs.Option.{MatchOption, option_map}
 use Rattle.std.specs.Prelude.{slice_get}
 use Rattle.std.specs.Borrow.{Bor}
@@ -52,6 +52,11 @@ module _ {T K V : Type 0} (read : List ℕ → K) (text : T → List ℕ) where
       let all : entries_read read text before ≡ rest ++ last ∷ [] = ap (entries_read read text) some ∙ map-append entry_read after (entry ∷ []) in
       let long : length (rest ++ last ∷ []) - 1 ≡ length rest = omega (arith, length-append rest (last ∷ [])) in
       (rw (all, long, get-last rest last) refl, rw (all, long, take-append_seam rest (last ∷ [])) refl)
+
+  -- some entries are some where they are read
+  pub some-read : (before : List (T × V)) (all : List (K × V)) → entries_read read text before ≡ all → before ≢ [] → all ≢ []
+  some-read [] all same some none = some refl
+  some-read (entry ∷ before) all same some none = let wrong : entry_read entry ∷ entries_read read text before ≡ [] = same ∙ none in absurd (cc)
 
   -- the entry that comes next is the next of those that are read
   pub first-yielded : (item : Option (Bor T × Bor V)) (all left : List (T × V)) (Empty : Type 0) → MatchOption item ((all ≡ []) × Empty) (λ x. all ≡ now_of x ∷ left)

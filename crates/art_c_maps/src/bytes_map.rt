@@ -428,13 +428,16 @@ impl BytesMap {
         write_found(self.entries.last(), key_out)
     }
 
-    /// As [`first`](Self::first), and removes the entry where its key fits. After a failure the entries are
-    /// unchanged, and no key is written.
+    /// As [`first`](Self::first), and removes the entry where its key fits.
+    ///
+    /// Error: [`AllocError`] on an allocation failure, only where there is an entry whose key fits. The entries
+    /// are unchanged, and no key is written.
     pub fn pop_first(&mut self, key_out: &mut [u8]) -> Result<Option<(usize, u64)>, AllocError>
         ensures found { IfOk result (λ found. found ≡ option_map len_and_value (first_of self.old)) }
         ensures written { OnOk result (key_out.new ≡ key_written (first_of self.old) key_out.old) }
         ensures entries { OnOk result (self.new
             ≡ (if key_fits (first_of self.old) (length key_out.old) then drop 1 self.old else self.old)) }
+        ensures refused { OnErr result (key_fits (first_of self.old) (length key_out.old) ≡ true) }
         ensures not_written { OnErr result (key_out.new ≡ key_out.old) }
         ensures same_entries { OnErr result (self.new ≡ self.old) }
     {
@@ -445,14 +448,15 @@ impl BytesMap {
         Ok(write_removed(removed, key_out))
     }
 
-    /// As [`last`](Self::last), and removes the entry where its key fits. After a failure the entries are
-    /// unchanged, and no key is written.
+    /// As [`last`](Self::last), and removes the entry where its key fits. Fails as
+    /// [`pop_first`](Self::pop_first).
     pub fn pop_last(&mut self, key_out: &mut [u8]) -> Result<Option<(usize, u64)>, AllocError>
         ensures found { IfOk result (λ found. found ≡ option_map len_and_value (last_of self.old)) }
         ensures written { OnOk result (key_out.new ≡ key_written (last_of self.old) key_out.old) }
         ensures entries { OnOk result (self.new
             ≡ (if key_fits (last_of self.old) (length key_out.old)
             then take (length self.old - 1) self.old else self.old)) }
+        ensures refused { OnErr result (key_fits (last_of self.old) (length key_out.old) ≡ true) }
         ensures not_written { OnErr result (key_out.new ≡ key_out.old) }
         ensures same_entries { OnErr result (self.new ≡ self.old) }
     {

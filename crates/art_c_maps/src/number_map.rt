@@ -1,5 +1,5 @@
 //! Maps by 64-bit numbers.
-ghost use Rattle.std.specs.Prelude.{◌≡◌, ◌≢◌, ◌-◌, ◌<◌, [], drop, length, min, reverse, take, IfErr, IfOk, None, OnErr, OnOk};
+ghost use Rattle.std.specs.Prelude.{◌≡◌, ◌≢◌, ◌-◌, ◌<◌, [], drop, get_or, length, min, reverse, take, IfErr, IfOk, None, OnErr, OnOk};
 ghost use Rattle.std.specs.Int.{from_be_bytes, w64};
 ghost use Rattle.std.specs.List.{zip};
 ghost use Rattle.std.specs.Option.{option_map};
@@ -223,6 +223,7 @@ impl NumberMap {
     pub fn pop_first(&mut self) -> Result<Option<(u64, u64)>, AllocError>
         ensures removed { IfOk result (λ removed. removed ≡ first_of self.old) }
         ensures entries { OnOk result (self.new ≡ drop 1 self.old) }
+        ensures refused { OnErr result (self.old ≢ []) }
         ensures same_entries { OnErr result (self.new ≡ self.old) }
     {
         let removed = self.entries.pop_first()?;
@@ -234,6 +235,7 @@ impl NumberMap {
     pub fn pop_last(&mut self) -> Result<Option<(u64, u64)>, AllocError>
         ensures removed { IfOk result (λ removed. removed ≡ last_of self.old) }
         ensures entries { OnOk result (self.new ≡ take (length self.old - 1) self.old) }
+        ensures refused { OnErr result (self.old ≢ []) }
         ensures same_entries { OnErr result (self.new ≡ self.old) }
     {
         let removed = self.entries.pop_last()?;
@@ -306,12 +308,13 @@ impl NumberMap {
     }
 
     /// Sets the values of these keys one after another, as [`insert`](Self::insert) does: as many as the
-    /// shorter of both slices holds. Stops at the first whose memory is refused. Returns how many were set,
-    /// and whether all were.
+    /// shorter of both slices holds. Stops at the first whose memory is refused, and only at one that is not
+    /// there. Returns how many were set, and whether all were.
     pub fn insert_many(&mut self, keys: &[u64], values: &[u64]) -> (usize, Result<(), AllocError>)
         ensures entries { self.new ≡ put_each nat_cmp self.old (take result.0 (zip keys.now values.now)) }
         ensures all { OnOk result.1 (result.0 ≡ length (zip keys.now values.now)) }
         ensures stopped { OnErr result.1 (result.0 < length (zip keys.now values.now)) }
+        ensures no_entry { OnErr result.1 (value_of nat_cmp self.new (get_or keys.now result.0 0) ≡ None) }
     {
         let count = keys.len().min(values.len());
         for index in 0..count {

@@ -296,9 +296,10 @@ impl<'a, K: AsBytes + Drop, V: Drop, const PREFIX_LEN: usize> VacantEntry<'a, K,
         &self.key
     }
 
-    /// The key that was looked for, by value.
+    /// The key that was looked for, by value. The entries are unchanged.
     pub fn into_key(self) -> K
-        ensures { result ≡ self.entry.key }
+        ensures key { result ≡ self.entry.key }
+        ensures same_entries { self.exit.0.now ≡ self.entry.map.now }
     {
         self.key
     }

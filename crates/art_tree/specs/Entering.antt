@@ -62,6 +62,7 @@ module _ {K V : Type 0} {P : ℕ} (text : K → List ℕ) (old new : Art (NodeAr
   -- the leaf with a text is found, or added with a value that was made; or the entry is refused
   pub record FindsOrInserts (made : V → Type 0) (result : Result (LeafPtr K V P) (InsertFault K V)) : Type 0 where
     pub found : IfOk result (λ leaf. FindsEntry text old.arena new.arena key made (leaf_pointer leaf))
+    pub present_kept : OnOk result (entry_at text old.arena (text key) ≢ None → new ≡ old)
     pub no_refusal : OnOk result (MayEnter text old.arena (text key))
     pub refusal_due : IfErr result (λ fault. IsRefused text old.arena (text key) fault.refusal)
     pub entry_back : IfErr result (λ fault. (fault.key ≡ key) × made fault.value)

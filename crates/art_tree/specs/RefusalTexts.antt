@@ -9,7 +9,7 @@ use Rattle.art_tree.specs.declared.loading.check.LoadRefusal.TheVariants.{Empty,
 -- why an entry is not inserted
 abbrev pub insert_refusal_text : InsertRefusal → List ℕ
 insert_refusal_text Insert.KeyTooLong = codes "key too long"
-insert_refusal_text Insert.Prefix = codes "one key is a front of the other"
+insert_refusal_text Insert.Prefix = codes "one key is a prefix of the other"
 insert_refusal_text Insert.OutOfMemory = codes "out of memory"
 
 -- why entries are not loaded
@@ -17,5 +17,5 @@ abbrev pub load_refusal_text : LoadRefusal → List ℕ
 load_refusal_text Empty = codes "no entries"
 load_refusal_text (KeyTooLong i) = codes "entry " ++ decimal i ++ codes ": key too long"
 load_refusal_text (NotAscending i) = codes "entry " ++ decimal i ++ codes ": key is not below the next one"
-load_refusal_text (Prefix i) = codes "entry " ++ decimal i ++ codes ": key is a front of the next one"
+load_refusal_text (Prefix i) = codes "entry " ++ decimal i ++ codes ": key is a prefix of the next one"
 load_refusal_text OutOfMemory = codes "out of memory"

@@ -1,5 +1,5 @@
 -- What a tree ends as, where a value of it is borrowed.
-use Rattle.std.specs.Prelude.{◌≡◌, ℕ, List, Option, Some, Result, OnSome}
+use Rattle.std.specs.Prelude.{◌≡◌, ◌≢◌, ℕ, List, Option, None, Some, Result, OnSome}
 use Rattle.std.specs.Borrow.{RattleType, Fml, MutBor, Lends, LendsSo, LendsSoOk}
 use Rattle.std.specs.Option.{option_map, option_map_or}
 use Rattle.art_nodes.specs.Leaf.{leaf_key, with_value}
@@ -39,12 +39,14 @@ LendsValueAt K V P text is_key tree x result =
 
 module _ {K V : Type 0} {P : ℕ} (text : K → List ℕ) (old new : Art (NodeArena K V P) (OpaqueNodePtr K V P)) where
   -- the entry of the key's text has this value now, under the key that it had, or in a new entry of this key; every
-  -- other entry is unchanged and in its leaf, and memory was taken only for nodes that the new entry needs
+  -- other entry is unchanged and in its leaf, and memory was taken only for nodes that the new entry needs. Where the
+  -- entry was there, every node but its leaf, the root and spare capacity are unchanged
   pub record HasEntryNow (key : K) (value : V) : Type 0 where
     pub entry : entry_at text new.arena (text key) ≡ Some (option_map_or (λ entry. entry.0) (entry_at text old.arena (text key)) key, value)
     pub others : SameOtherEntries text old.arena new.arena (text key)
     pub leaves : KeepsOtherLeaves text old.arena new.arena (text key)
     pub memory : GrowsOnlyWhere old.arena new.arena (LacksRoomToInsert text old.arena old.root (text key))
+    pub present_kept : entry_at text old.arena (text key) ≢ None → HasValueNow text old new (text key) value
 
   -- every entry, every node and the root are unchanged, and memory was taken only for nodes that an entry of this
   -- text needs

@@ -44,7 +44,7 @@ impl fmt::Display for InsertRefusal {
     fn fmt<W: fmt::Write>(&self, f: &mut fmt::Formatter<W>) -> fmt::Result {
         match self {
             InsertRefusal::KeyTooLong => write!(f, "key too long"),
-            InsertRefusal::Prefix => write!(f, "one key is a front of the other"),
+            InsertRefusal::Prefix => write!(f, "one key is a prefix of the other"),
             InsertRefusal::OutOfMemory => write!(f, "out of memory"),
         }
     }

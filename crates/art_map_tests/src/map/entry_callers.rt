@@ -72,6 +72,17 @@ pub fn add_word<K: AsBytes + Drop>(
     Ok(())
 }
 
+/// Returns a word that is not there, and then the map is as it was.
+pub fn absent_word<K: AsBytes + Drop>(counts: &mut Map<K, u32>, word: K) -> Option<K>
+    ensures same_word { IfSome result (λ absent. absent ≡ word) }
+    ensures same_entries { IfSome result (λ _. counts.new ≡ counts.old) }
+{
+    match counts.entry(word) {
+        Entry::Occupied(_) => None,
+        Entry::Vacant(entry) => Some(entry.into_key()),
+    }
+}
+
 /// Removes a word, if it is there.
 pub fn forget<K: AsBytes + Drop>(
     counts: &mut Map<K, u32>,

@@ -146,6 +146,7 @@ module _ {K V : Type 0} {P : ℕ} {text : K → List ℕ} {old : Art (NodeArena 
       let (node, is, has) = present-leaf present in
       record {
         found = inl ((leaf_key node, leaf_value node), present-entry present, refl, record { leaf = node; is_held = is; key = refl; value = refl });
+        present_kept = λ present. refl;
         no_refusal = present-may present;
         refusal_due = tt;
         entry_back = tt;
@@ -159,6 +160,7 @@ module _ {K V : Type 0} {P : ℕ} {text : K → List ℕ} {old : Art (NodeArena 
   pub finds-added : {new : Art (NodeArena K V P) (OpaqueNodePtr K V P)} (value : V) → made value → (result : Result (LeafPtr K V P) (InsertFault K V)) → InsertsAt text old new key value result → FindsOrInserts text old new key made result
   finds-added value is_made (Ok leaf) inserts = record {
     found = inr (value, is_made, inserts.absent, inserts.entered, inserts.leaf);
+    present_kept = λ present. absurd (present inserts.absent);
     no_refusal = inserts.no_refusal;
     refusal_due = tt;
     entry_back = tt;
@@ -170,6 +172,7 @@ module _ {K V : Type 0} {P : ℕ} {text : K → List ℕ} {old : Art (NodeArena 
   }
   finds-added value is_made (Err fault) inserts = record {
     found = tt;
+    present_kept = tt;
     no_refusal = tt;
     refusal_due = inserts.refusal_due;
     entry_back = (inserts.entry_back.0, subst made (sym inserts.entry_back.1) is_made);

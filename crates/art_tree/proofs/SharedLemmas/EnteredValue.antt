@@ -19,6 +19,13 @@ module _ {K V : Type 0} {P : ℕ} (text : K → List ℕ) (old mid : NodeArena K
     | inr (v, is_made, none, entered, holds) ↦ subst (λ o. UnwrapsOrElse (option_map (λ (e : K × V). e.1) o) made value) (sym none) (subst made (sym (is holds.leaf holds.is_held ∙ holds.value)) is_made)
   ]
 
+  -- the leaf has the text of the key
+  pub text-held : (was : LeafNode K V P) → held mid pointer ≡ HeldLeaf was → text (leaf_key was) ≡ text key
+  text-held was there = elim finds [
+    | inl (entry, is, same, holds) ↦ ap text (ap leaf_key (one-leaf (held mid pointer) was holds.leaf there holds.is_held) ∙ holds.key) ∙ text-found text old (text key) entry is
+    | inr (v, is_made, none, entered, holds) ↦ ap text (ap leaf_key (one-leaf (held mid pointer) was holds.leaf there holds.is_held) ∙ holds.key)
+  ]
+
   module _ (new : NodeArena K V P) (w : V) (was : LeafNode K V P) (there : held mid pointer ≡ HeldLeaf was) (writes : IsEntered text mid new (leaf_key was) w) where
     entered-as : (k : K) (v : V) → HoldsEntry mid pointer k v → IsEntered text mid new k w
     entered-as k v holds = subst (λ k. IsEntered text mid new k w) (ap leaf_key (one-leaf (held mid pointer) was holds.leaf there holds.is_held) ∙ holds.key) writes

@@ -46,7 +46,7 @@ impl fmt::Display for LoadRefusal {
                 write!(f, "entry {index}: key is not below the next one")
             }
             LoadRefusal::Prefix(index) => {
-                write!(f, "entry {index}: key is a front of the next one")
+                write!(f, "entry {index}: key is a prefix of the next one")
             }
             LoadRefusal::OutOfMemory => write!(f, "out of memory"),
         }

@@ -15,8 +15,8 @@ impl<K: AsBytes + Drop, V: Drop, const PREFIX_LEN: usize> ArtTree<K, V, PREFIX_L
     /// goes through memory in order. Inner nodes stay where they are, and the root too, unless it is a
     /// leaf. Each kind of node has no less spare capacity afterwards.
     ///
-    /// Takes less time and memory than [`compact`](Self::compact), which moves the inner nodes as well
-    /// and gives spare capacity back.
+    /// Takes less time than [`compact`](Self::compact), which moves the inner nodes as well and gives spare
+    /// capacity back.
     ///
     /// Leaves get new pointers. All memory is taken before a leaf moves: while the call runs, there are
     /// leaves of twice the capacity, the entries once more, and three words for each. Where memory is

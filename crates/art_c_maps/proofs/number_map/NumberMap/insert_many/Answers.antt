@@ -2,7 +2,7 @@ use Rattle.std.proofs.Common.{◌≡◌, ◌∙◌, take, get_or, ap, arith}
 use Rattle.std.specs.List.{zip}
 use Rattle.std.specs.Ordering.{nat_cmp}
 use Rattle.std.proofs.lemmas.Slice.Zip.{length-zip}
-use Rattle.art_c_maps.specs.Entries.{put, put_each}
+use Rattle.art_c_maps.specs.Entries.{put, put_each, value_of}
 use Rattle.art_c_maps.proofs.ManyLemmas.{put-more}
 use Rattle.art_c_maps.proofs.number_map.NumberMap.insert_many.Goals as goal
 
@@ -17,6 +17,10 @@ returns-in_default-clause-entries c = c.in_default.ensures.same_entries ∙ c.lo
 
 pub returns-in_default-clause-stopped : goal.returns-in_default-clause-stopped
 returns-in_default-clause-stopped c = omega (arith, length-zip c.args.keys.now c.args.values.now, c.loop-index-test.true, c.min-count.ensures)
+
+pub returns-in_default-clause-no_entry : goal.returns-in_default-clause-no_entry
+returns-in_default-clause-no_entry c =
+    ap (λ entries. value_of nat_cmp entries (get_or c.args.keys.now c.loop-index.index 0)) c.in_default.ensures.same_entries ∙ c.in_default.ensures.no_entry
 
 pub returns-clause-entries : goal.returns-clause-entries
 returns-clause-entries c =

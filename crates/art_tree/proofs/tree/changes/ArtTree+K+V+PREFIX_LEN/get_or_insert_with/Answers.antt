@@ -1,7 +1,7 @@
-use Rattle.art_tree.proofs.Names.{◌∙◌, refl, ap, sym, subst, option_map, same_Some, leaf_value, slab_key, HoldsLeaf, leaf_at, with_value_at, FindsEntry, LacksRoomToInsert, GrowsOnlyWhere, leaf_pointer, held_leaf, leaf-pointer-fits, spot-fits}
-use Rattle.art_tree.proofs.SharedLemmas.EnteredValue.{entry-held, entry-written, value-found}
+use Rattle.art_tree.proofs.Names.{◌∙◌, refl, ap, sym, subst, option_map, same_Some, leaf_value, slab_key, HoldsLeaf, leaf_at, with_value_at, FindsEntry, HasValueNow, LacksRoomToInsert, GrowsOnlyWhere, leaf_pointer, held_leaf, leaf-pointer-fits, spot-fits}
+use Rattle.art_tree.proofs.SharedLemmas.EnteredValue.{entry-held, entry-written, text-held, value-found}
 use Rattle.art_tree.proofs.SharedLemmas.HeldNodes.{leaf-of}
-use Rattle.art_tree.proofs.SharedLemmas.LentValue.{leaf-there, value-entered, value-invariant}
+use Rattle.art_tree.proofs.SharedLemmas.LentValue.{leaf-there, value-entered, value-invariant, value-now}
 use Rattle.art_tree.proofs.SharedLemmas.RoomLemmas.{grows-on, same-capacity}
 use Rattle.art_tree.proofs.tree.changes.ArtTree+K+V+PREFIX_LEN.get_or_insert_with.Goals as goal
 
@@ -40,6 +40,9 @@ returns g c =
               others = now.1;
               leaves = now.2;
               memory = grows-on old.arena mid new (LacksRoomToInsert text old.arena old.root (text c.args.key)) memory (λ kind. same-capacity mid new (c.as_value_mut.ensures.room w) kind);
+              present_kept = λ present. subst (λ seen. HasValueNow text seen (record { arena = new; root = c.self.inside.root }) (text c.args.key) w) (c.self.view_is ∙ done.present_kept present)
+                  (value-now text mid slot was found w (c.as_value_mut.ensures.changes was w found) c.self.inside.root c.self.invariant.0 (text c.args.key)
+                  (text-held text old.arena mid c.args.key made (leaf_pointer c.in_ok-leaf.leaf) finds was (ap held_leaf found)) (c.as_value_mut.ensures.room w));
             },
         tt,
       ),
