@@ -1,0 +1,2 @@
+pub mod RaisedHeads
+pub mod FloatBits

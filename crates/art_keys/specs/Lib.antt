@@ -1,0 +1,14 @@
+pub mod Encoding
+pub mod EncodingLaws
+pub mod Heads
+pub mod HeadLaws
+pub mod Strings
+pub mod StringLaws
+pub mod Utf8Laws
+pub mod AddressKeys
+pub mod AddressKeyLaws
+pub mod Groups
+pub mod GroupLaws
+pub mod Prefixes
+pub mod PrefixLaws
+pub mod Floats
