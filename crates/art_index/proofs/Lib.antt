@@ -1,0 +1,14 @@
+pub mod OrderLemmas
+pub mod ByteLemmas
+pub mod BranchLemmas
+pub mod DescentLemmas
+pub mod PlaceLemmas
+pub mod LinkLemmas
+pub mod FloorLemmas
+pub mod ChangeLemmas
+pub mod ValueLemmas
+pub mod Sizes
+pub mod ClashLemmas
+pub mod LikelyLemmas
+pub mod UpToLemmas
+pub mod EndLemmas

@@ -1,0 +1,3 @@
+pub mod Anchors
+pub mod Places
+pub mod Descent

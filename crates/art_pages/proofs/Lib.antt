@@ -1,0 +1,6 @@
+pub mod OrderLemmas
+pub mod PlaceLemmas
+pub mod MiddleLemmas
+mod ValueLemmas
+mod KeptLemmas
+pub mod FoundLemmas

@@ -1,0 +1,4 @@
+pub mod Entries
+pub mod Contents
+pub mod Lending
+pub mod Places
