@@ -1,0 +1,11 @@
+pub mod Pages
+pub mod Trees
+pub mod Runs
+pub mod Gaps
+pub mod Ends
+pub mod Inserts
+pub mod Spots
+pub mod Lending
+pub mod EntryCalls
+pub mod Ranges
+pub mod Seats

@@ -1,0 +1,23 @@
+//! An ordered map with native keys: pages of sorted entries, under an adaptive radix tree.
+#![tactic(auto)]
+
+mod debug;
+mod ends;
+mod entry;
+mod fault;
+mod gaps;
+mod iter;
+mod keys;
+mod map;
+mod put;
+mod room;
+mod runs;
+mod spots;
+mod take;
+mod within;
+
+pub use entry::{Entry, EntryOver, OccupiedEntry, OccupiedOver, VacantEntry, VacantOver};
+pub use fault::{ExtendFault, InsertFault, InsertRefusal};
+pub use iter::{EntriesOf, HasPages, Iter};
+pub use keys::{Keys, KeysOf, Values, ValuesOf};
+pub use map::{HoldsPages, Leaf, Map, MapOver, Tree};

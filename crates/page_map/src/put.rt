@@ -1,0 +1,103 @@
+//! An entry put into the page where it belongs.
+ghost use Rattle.std.specs.Prelude.{◌≡◌, ◌<◌, None, IfOk, IfErr, OnOk, OnErr};
+ghost use Rattle.std.specs.BTreeMap.{insert_entry};
+ghost use Rattle.art_pages.specs.Entries.{IsIndexable, get_by};
+ghost use Rattle.page_map.specs.Pages.{map_entries, IsMap};
+ghost use Rattle.page_map.specs.Trees.{pages_in, pages_of};
+
+use crate::map::Tree;
+use art_index::{floor, page_mut};
+use art_keys::RadixKey;
+use art_pages::Page;
+
+// Puts an entry into a page with spare capacity and fewer entries than `most`, or replaces the value of its
+// key. Else the entry comes back.
+fn put_in<K: RadixKey + Drop, V>(
+    page: &mut Page<K, V>,
+    most: usize,
+    key: K,
+    value: V,
+) -> Result<Option<V>, (K, V)>
+    requires { IsIndexable K.is_key K.encoded key }
+    ensures old { IfOk result (λ old. old ≡ get_by (K.cmp key) page.old.entries) }
+    ensures entries { OnOk result (page.new.entries ≡ insert_entry K.cmp page.old.entries key value) }
+    ensures most { IfOk result (λ old. old ≡ None → 0 < most) }
+    ensures returned { IfErr result (λ back. back ≡ (key, value)) }
+    ensures absent { OnErr result (get_by (K.cmp key) page.old.entries ≡ None) }
+    ensures same { OnErr result (page.new.entries ≡ page.old.entries) }
+{
+    match page.search(&key) {
+        Ok(place) => Ok(Some(page.replace_value(place, value))),
+        Err(place) => {
+            if !page.has_room() || most <= page.len() {
+                return Err((key, value));
+            }
+            match page.insert_at(place, key, value) {
+                Ok(()) => Ok(None),
+                Err(refused) => Err(refused.value),
+            }
+        }
+    }
+}
+
+// The same in the page of a map where the entry belongs.
+fn put_over<K: RadixKey + Drop, V>(
+    head: &mut Page<K, V>,
+    tree: &mut Tree<K, V>,
+    most: usize,
+    key: K,
+    value: V,
+) -> Result<Option<V>, (K, V)>
+    requires map { IsMap K.order K.is_key K.encoded head.old.entries (pages_of tree.old.arena) }
+    requires key { IsIndexable K.is_key K.encoded key }
+    ensures map { IsMap K.order K.is_key K.encoded head.new.entries (pages_of tree.new.arena) }
+    ensures old { IfOk result (λ old. old ≡ get_by (K.cmp key)
+        (map_entries head.old.entries (pages_of tree.old.arena))) }
+    ensures entries { OnOk result (map_entries head.new.entries (pages_of tree.new.arena)
+        ≡ insert_entry K.cmp (map_entries head.old.entries (pages_of tree.old.arena)) key value) }
+    ensures most { IfOk result (λ old. old ≡ None → 0 < most) }
+    ensures returned { IfErr result (λ back. back ≡ (key, value)) }
+    ensures absent { OnErr result (get_by (K.cmp key)
+        (map_entries head.old.entries (pages_of tree.old.arena)) ≡ None) }
+    ensures same { OnErr result (map_entries head.new.entries (pages_of tree.new.arena)
+        ≡ map_entries head.old.entries (pages_of tree.old.arena)) }
+{
+    match floor(tree, &key) {
+        Some(leaf) => put_in(page_mut(tree, leaf), most, key, value),
+        None => put_in(head, most, key, value),
+    }
+}
+
+/// Puts an entry into the page of a map where it belongs, or replaces the value of its key. Takes no
+/// memory: where it is needed for a new key, or `most` is 0, the entry comes back.
+pub(crate) fn put<K: RadixKey + Drop, V>(
+    head: &mut Page<K, V>,
+    tree: &mut Option<Box<Tree<K, V>>>,
+    most: usize,
+    key: K,
+    value: V,
+) -> Result<Option<V>, (K, V)>
+    requires map { IsMap K.order K.is_key K.encoded head.old.entries
+        (pages_in (λ tree. pages_of tree.value.arena) tree.old) }
+    requires key { IsIndexable K.is_key K.encoded key }
+    ensures map { IsMap K.order K.is_key K.encoded head.new.entries
+        (pages_in (λ tree. pages_of tree.value.arena) tree.new) }
+    ensures old { IfOk result (λ old. old ≡ get_by (K.cmp key) (map_entries head.old.entries
+        (pages_in (λ tree. pages_of tree.value.arena) tree.old))) }
+    ensures entries { OnOk result (map_entries head.new.entries
+        (pages_in (λ tree. pages_of tree.value.arena) tree.new)
+        ≡ insert_entry K.cmp (map_entries head.old.entries
+        (pages_in (λ tree. pages_of tree.value.arena) tree.old)) key value) }
+    ensures most { IfOk result (λ old. old ≡ None → 0 < most) }
+    ensures returned { IfErr result (λ back. back ≡ (key, value)) }
+    ensures absent { OnErr result (get_by (K.cmp key) (map_entries head.old.entries
+        (pages_in (λ tree. pages_of tree.value.arena) tree.old)) ≡ None) }
+    ensures same { OnErr result (map_entries head.new.entries
+        (pages_in (λ tree. pages_of tree.value.arena) tree.new)
+        ≡ map_entries head.old.entries (pages_in (λ tree. pages_of tree.value.arena) tree.old)) }
+{
+    match tree {
+        Some(tree) => put_over(head, tree, most, key, value),
+        None => put_in(head, most, key, value),
+    }
+}

@@ -1,0 +1,4 @@
+pub mod ListLemmas
+pub mod OrderedKeys
+pub mod WalkLemmas
+pub mod KeyOrders

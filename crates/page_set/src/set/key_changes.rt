@@ -1,0 +1,93 @@
+//! Keys added and taken out.
+ghost use Rattle.std.specs.Prelude.{◌≡◌, ◌+◌, ◌≤◌, ◌^◌, ◌↔◌, ◌∷◌, [], false, not, length, is_some, if◌then◌else◌, IfErr, IfNone, IfOk, IfSome, OnErr, OnOk};
+ghost use Rattle.std.specs.Bool.{OnFalse};
+ghost use Rattle.std.specs.BTreeMap.{is_at};
+ghost use Rattle.std.specs.BTreeSet.{insert_key};
+ghost use Rattle.std.specs.List.Sorted.{IsStrictlySortedBy};
+ghost use Rattle.std.specs.Set.{remove_key};
+ghost use Rattle.page_map.specs.declared.fault.InsertRefusal.TheVariants.{KeyTooLong};
+ghost use Rattle.page_set.specs.KeyLists.{contains_by, get_by};
+
+use super::Set;
+use art_keys::{RadixKey, RadixQuery};
+use page_map::InsertFault;
+
+impl<K: RadixKey> Set<K> {
+    /// Adds a key, and returns whether it is new. If it is not, the key of the set stays, and the new one
+    /// is dropped.
+    ///
+    /// Only a key that is not there is refused, and then it comes back and the set is as it was: as too
+    /// long where its encoding has 2^32 bytes or more, else for memory.
+    pub fn insert(&mut self, key: K) -> Result<bool, InsertFault<K, ()>>
+    where
+        K: Drop,
+        ensures added { IfOk result (λ added. added ≡ not (contains_by (K.cmp key) self.old)) }
+        ensures keys { OnOk result (self.new ≡ insert_key K.cmp self.old key) }
+        ensures unchanged { IfOk result (λ added. OnFalse added (self.new ≡ self.old)) }
+        ensures len { IfOk result (λ added. length self.new ≡ length self.old + (if added then 1 else 0)) }
+        ensures too_long { IfErr result
+            (λ fault. (fault.refusal ≡ KeyTooLong) ↔ (2 ^ 32 ≤ length (K.encoded key))) }
+        ensures returned { IfErr result (λ fault. fault.key ≡ key) }
+        ensures absent { OnErr result (contains_by (K.cmp key) self.old ≡ false) }
+        ensures err { OnErr result (self.new ≡ self.old) }
+        ensures ordered { IsStrictlySortedBy K.cmp self.new }
+    {
+        // So that the keys are known to be in order.
+        let _len = self.len();
+        let old = match self.entries.insert(key, ()) {
+            Ok(old) => old,
+            Err(fault) => return Err(fault),
+        };
+        Ok(old.is_none())
+    }
+
+    /// Takes out the key of a query, if the set has it. It is never refused.
+    pub fn take<Q: RadixQuery<K>>(&mut self, key: Q) -> Option<K>
+        ensures key { result ≡ get_by (Q.compare key) self.old }
+        ensures keys { self.new ≡ remove_key (is_at (Q.compare key)) self.old }
+        ensures unchanged { IfNone result (self.new ≡ self.old) }
+        ensures len { length self.new + (if is_some result then 1 else 0) ≡ length self.old }
+        ensures ordered { IsStrictlySortedBy K.cmp self.new }
+    {
+        let Some((key, _)) = self.entries.remove_entry(key) else {
+            return None;
+        };
+        Some(key)
+    }
+
+    /// Takes out the key of a query, if the set has it, and returns whether it had. It is never
+    /// refused.
+    pub fn remove<Q: RadixQuery<K>>(&mut self, key: Q) -> bool
+    where
+        K: Drop,
+        ensures test { result ≡ contains_by (Q.compare key) self.old }
+        ensures keys { self.new ≡ remove_key (is_at (Q.compare key)) self.old }
+        ensures unchanged { OnFalse result (self.new ≡ self.old) }
+        ensures len { length self.new + (if result then 1 else 0) ≡ length self.old }
+        ensures ordered { IsStrictlySortedBy K.cmp self.new }
+    {
+        self.take(key).is_some()
+    }
+
+    /// Drops all keys, and gives the memory of the pages but the first back. It takes none.
+    pub fn clear(&mut self)
+    where
+        K: Drop,
+        ensures { self.new ≡ [] }
+    {
+        self.entries.clear();
+    }
+
+    /// Takes out the least key, if there is one. It is never refused.
+    pub fn pop_first(&mut self) -> Option<K>
+        ensures removal { IfSome result (λ key. self.old ≡ key ∷ self.new) }
+        ensures none { IfNone result (self.old ≡ []) }
+        ensures unchanged { IfNone result (self.new ≡ self.old) }
+        ensures ordered { IsStrictlySortedBy K.cmp self.new }
+    {
+        match self.entries.pop_first() {
+            Some((key, _)) => Some(key),
+            None => None,
+        }
+    }
+}
