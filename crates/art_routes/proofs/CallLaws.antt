@@ -34,7 +34,7 @@ same_network a b tied =
 pub ties_itself : (network : Block) → network_order network network ≡ Equal
 ties_itself network = rw (number_ties network.address.width, number_ties network.address.bits, number_ties network.length) refl
 
-tied : (o : Ordering) → is_eq o ≡ true → o ≡ Equal
+pub tied : (o : Ordering) → is_eq o ≡ true → o ≡ Equal
 tied Less test = absurd (cc)
 tied Equal test = refl
 tied Greater test = absurd (cc)

@@ -7,14 +7,15 @@ use Rattle.std.proofs.Math.Pow.{shr_mono}
 use Rattle.std.proofs.lemmas.Bool.{and_from, and_parts, cases_lt, le-leb, leb-true}
 use Rattle.std.proofs.lemmas.Nat.{mul-add-lt, pow_pos, shr-shr}
 use Rattle.art_bytes.specs.Text.{text_order}
-use Rattle.art_routes.specs.Keys.{key_text, last_network, network_of, routes_of}
+use Rattle.art_routes.specs.KeyLaws.{key_order}
+use Rattle.art_routes.specs.Keys.{key_text, last_network}
 use Rattle.art_routes.specs.Networks.{Block, IsNetwork, contains, covers, network_order}
 use Rattle.art_routes.specs.Tables.{covered}
 use Rattle.art_routes.proofs.BitLemmas.{none_behind}
 use Rattle.art_routes.proofs.CoveringLemmas.{same_tests}
-use Rattle.art_routes.proofs.LongestLemmas.{in-is, is-in}
+use Rattle.art_routes.proofs.CoverLemmas.{in-is, is-in}
 use Rattle.art_routes.proofs.OrderLemmas.{length_small, width_small, place, place_down, down_place, place_up, up_place}
-use Rattle.art_routes.proofs.RouteLemmas.{AreKeys, key-at, picked-read}
+use Rattle.art_routes.proofs.RouteLemmas.{AreNetworks, picked-read}
 
 -- numbers from q * 2 ^ k on, fewer than 2 ^ k of them, are q without their last k bits
 whole_part : (n x k : ℕ) → n % 2 ^ k ≡ 0 → n ≤ x → x ≤ n + (2 ^ k - 1) → x / 2 ^ k ≡ n / 2 ^ k
@@ -90,12 +91,13 @@ module _ (network other : Block) (is : IsNetwork network) (other_is : IsNetwork 
   in_range = same_tests (is_le (network_order other (last_network network)) && is_ge (network_order other network)) (covers network other) to_cover from_cover
 
 -- the entries of the range are the routes that are covered
-pub covered-at : {V : Type 0} (entries : List (List ℕ × V)) (routes : List (Block × V)) → routes_of entries ≡ routes → AreKeys entries → (network last : Block) → IsNetwork network → IsNetwork last → last ≡ last_network network → (x y : List ℕ) → x ≡ key_text network → y ≡ key_text last
-    → routes_of (filter (λ entry. is_le (text_order entry.0 y) && is_ge (text_order entry.0 x)) entries) ≡ covered network routes
-covered-at entries routes view_is all network last is last_is ends x y x_text y_text =
-    picked-read (λ z. is_le (text_order z y) && is_ge (text_order z x)) (covers network)
+pub covered-at : {V : Type 0} (entries routes : List (Block × V)) → entries ≡ routes → AreNetworks entries → (network last : Block) → IsNetwork network → IsNetwork last → last ≡ last_network network → (x y : Block) → x ≡ network → y ≡ last
+    → filter (λ entry. is_le (text_order (key_text entry.0) (key_text y)) && is_ge (text_order (key_text entry.0) (key_text x))) entries ≡ covered network routes
+covered-at entries routes view_is all network last is last_is ends x y x_is y_is =
+    picked-read (λ z. is_le (text_order (key_text z) (key_text y)) && is_ge (text_order (key_text z) (key_text x))) (covers network)
     (λ z z_is.
-    (λ i. is_le (key-at z y last z_is last_is y_text i) && is_ge (key-at z x network z_is is x_text i))
-    ∙ ap (λ l. is_le (network_order (network_of z) l) && is_ge (network_order (network_of z) network)) ends
-    ∙ in_range network (network_of z) is z_is.network) entries all
+    (λ i. is_le (text_order (key_text z) (key_text (y_is i))) && is_ge (text_order (key_text z) (key_text (x_is i))))
+    ∙ (λ i. is_le (key_order z last z_is last_is i) && is_ge (key_order z network z_is is i))
+    ∙ ap (λ l. is_le (network_order z l) && is_ge (network_order z network)) ends
+    ∙ in_range network z is z_is) entries all
     ∙ ap (covered network) view_is

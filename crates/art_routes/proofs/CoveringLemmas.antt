@@ -1,7 +1,6 @@
 -- The routes that cover a network, the longest first, and the shortest that contains an address.
-use Rattle.std.proofs.Common.{◌≡◌, ◌∙◌, inl, inr, ℕ, zero, suc, ◌+◌, ◌-◌, ◌<◌, ◌≤◌, Bool, true, false, List, [], ◌∷◌, ◌++◌, All, AllPairs, Contains, Option, None, Some, filter, get_or, reverse, refl, sym, ap, subst, arith}
-use Rattle.std.specs.Borrow.{Bor}
-use Rattle.std.specs.Option.{MatchOption, SomeIff}
+use Rattle.std.proofs.Common.{◌≡◌, ◌∙◌, inl, inr, ℕ, zero, suc, ◌-◌, ◌<◌, ◌≤◌, Bool, true, false, List, [], ◌∷◌, ◌++◌, All, AllPairs, Contains, Option, None, Some, filter, get_or, reverse, refl, sym, ap, subst, arith}
+use Rattle.std.specs.Option.{SomeIff}
 use Rattle.std.specs.Ordering.{is_ge}
 use Rattle.std.specs.declared.cmp.Ordering.TheVariants.{Less}
 use Rattle.std.proofs.lemmas.Bool.{cases_lt, false_from_ne_true}
@@ -9,10 +8,10 @@ use Rattle.std.proofs.lemmas.List.{reverse-append}
 use Rattle.std.proofs.lemmas.List.Elements.{All-contains, All-head, All-tail}
 use Rattle.art_routes.specs.declared.address.Address.{Address}
 use Rattle.art_routes.specs.Keys.{covering_left}
-use Rattle.art_routes.specs.Networks.{Block, IsNetwork, contains, covers, network_order}
-use Rattle.art_routes.specs.Tables.{AreInOrder, IsLongestOver, IsShortest, NoneContains, NoneCovers, covering, route_now}
+use Rattle.art_routes.specs.Networks.{Block, IsNetwork, covers, network_order}
+use Rattle.art_routes.specs.Tables.{AreInOrder, IsLongestOver, NoneCovers, covering}
 use Rattle.art_routes.proofs.BitLemmas.{fewer_first}
-use Rattle.art_routes.proofs.LongestLemmas.{IsIn, IsOver, in-is, is-in, is-over, over-is, starts_in}
+use Rattle.art_routes.proofs.CoverLemmas.{IsIn, IsOver, is-over, over-is, starts_in}
 use Rattle.art_routes.proofs.OrderLemmas.{length_small, down_place}
 
 pub same_tests : (a b : Bool) → (a ≡ true → b ≡ true) → (b ≡ true → a ≡ true) → a ≡ b
@@ -20,7 +19,7 @@ same_tests true b to from = sym (to refl)
 same_tests false true to from = from refl
 same_tests false false to from = refl
 
-filter-none : {X : Type 0} (p : X → Bool) (xs : List X) → All (λ x. p x ≡ false) xs → filter p xs ≡ []
+pub filter-none : {X : Type 0} (p : X → Bool) (xs : List X) → All (λ x. p x ≡ false) xs → filter p xs ≡ []
 filter-none p [] fails = refl
 filter-none p (x ∷ xs) fails = rw (All-head (λ y. p y ≡ false) x xs fails) (filter-none p xs (All-tail (λ y. p y ≡ false) x xs fails))
 
@@ -128,51 +127,3 @@ module _ {V : Type 0} (routes : List (Block × V)) where
       | inr not_some ↦ around_last (omega (arith, not_some))
     ]
     around_left (Some less) (some, same) = around_shorter (omega (arith, some)) ∙ ap (λ n. route ∷ covering (record { address = address; length = n }) routes) (sym same)
-
--- what was found on the way to shorter routes: nothing where all around the address are no longer than those to come, or the route that is one bit longer
-abbrev pub IsShortestSoFar : {V : Type 0} → List (Block × V) → Address → Option (Block × Bor V) → ℕ → Type 0
-IsShortestSoFar routes address None most = All (λ other. contains other.0 address ≡ true → other.0.length ≤ most) routes
-IsShortestSoFar routes address (Some route) most = Contains routes (route_now route) × (contains route.0 address ≡ true) × (route.0.length ≡ most + 1)
-
-module _ {V : Type 0} (routes : List (Block × V)) (address : Address) where
-  pub at_width : All (λ route. IsNetwork route.0) routes → All (λ other. contains other.0 address ≡ true → other.0.length ≤ address.width) routes
-  at_width are k d inside test = let is = are k d inside in let widths = (is-in (get_or routes k d).0 address test).widths in omega (arith, is.fits, widths)
-
-  -- the longest of those that are left, which has some bits
-  pub one_longer : (most : ℕ) (route : Block × Bor V) → IsLongestOver routes (record { address = address; length = most }) (route_now route) → 0 < route.0.length → IsShortestSoFar routes address (Some route) (route.0.length - 1)
-  one_longer most route longest some = (longest.listed, in-is route.0 address (is-over route.0 address most longest.matches).in_it, omega (arith, some))
-
-  -- it is no longer than that
-  pub no_longer : (most : ℕ) (route : Block × V) → IsLongestOver routes (record { address = address; length = most }) route → route.0.length ≤ most
-  no_longer most route longest = (is-over route.0 address most longest.matches).shorter
-
-  -- one with no bits is the shortest
-  pub shortest_of_all : (most : ℕ) (route : Block × V) → IsLongestOver routes (record { address = address; length = most }) route → route.0.length ≡ 0 → IsShortest routes address route
-  shortest_of_all most route longest none = record {
-    listed = longest.listed;
-    matches = in-is route.0 address (is-over route.0 address most longest.matches).in_it;
-    shortest = λ k d inside test. omega (arith, none);
-  }
-
-  -- where no route is left
-  pub none_shorter : (found : Option (Block × Bor V)) (most : ℕ) → IsShortestSoFar routes address found most → NoneCovers routes (record { address = address; length = most })
-      → MatchOption found (NoneContains routes address) (λ route. IsShortest routes address (route_now route))
-  none_shorter None most so_far none = λ k d inside. false_from_ne_true (contains (get_or routes k d).0 address) (λ test.
-      let other = get_or routes k d in
-      let covered = over-is other.0 address most (record { in_it = is-in other.0 address test; shorter = so_far k d inside test }) in
-      let wrong : true ≡ false = sym covered ∙ none k d inside in
-      absurd (cc))
-  none_shorter (Some route) most (listed, matches, one_more) none = record {
-    listed = listed;
-    matches = matches;
-    shortest = λ k d inside test. by_length (get_or routes k d) (none k d inside) test;
-  }
-    where
-      by_length : (other : Block × V) → covers other.0 (record { address = address; length = most }) ≡ false → contains other.0 address ≡ true → route.0.length ≤ other.0.length
-      by_length other not_over test = elim (cases_lt most other.0.length) [
-        | inl longer ↦ omega (arith, longer, one_more)
-        | inr no_longer ↦
-            let covered = over-is other.0 address most (record { in_it = is-in other.0 address test; shorter = omega (arith, no_longer) }) in
-            let wrong : true ≡ false = sym covered ∙ not_over in
-            absurd (cc)
-      ]

@@ -1,13 +1,10 @@
 -- What follows from either result of a call, and of what was found.
-use Rattle.std.proofs.Common.{◌≡◌, ◌∙◌, ℕ, List, [], ◌∷◌, ◌++◌, Option, Some, None, Result, Ok, Err, IfOk, IfSome, OnOk, OnErr, All, refl, sym, subst, arith, length-append}
+use Rattle.std.proofs.Common.{◌≡◌, ◌∙◌, List, [], ◌∷◌, ◌++◌, Option, Some, None, Result, Ok, Err, IfOk, OnOk, OnErr, All, refl, sym, subst, arith, length-append}
 use Rattle.std.specs.Borrow.{Bor}
 use Rattle.std.specs.Option.{MatchOption, option_map}
-use Rattle.std.specs.Prelude.{slice_get}
 use Rattle.std.proofs.lemmas.List.{get_or_append_left}
 use Rattle.std.proofs.lemmas.List.Elements.{All-tail}
-use Rattle.std.proofs.lemmas.Option.{slice_get_within, get_or_from_slice_get}
-use Rattle.art_routes.specs.Keys.{IsKey, network_of, route_read}
-use Rattle.art_routes.specs.Networks.{Block}
+use Rattle.art_routes.specs.Networks.{Block, IsNetwork}
 
 module _ {A E : Type 0} where
   pub by_result : (r : Result A E) (P Q R : Type 0) → (P → R) → (Q → R) → OnOk r P → OnErr r Q → R
@@ -28,34 +25,30 @@ module _ {A E : Type 0} where
 
 module _ {V : Type 0} where
   -- an entry behind references
-  abbrev pub entry_now : Bor (List ℕ) × Bor V → List ℕ × V
+  abbrev pub entry_now : Bor Block × Bor V → Block × V
   entry_now item = (item.0.now, item.1.now)
 
-  -- an entry as a route
-  abbrev pub routed : List ℕ × V → Block × V
-  routed entry = (network_of entry.0, entry.1)
-
-  -- an entry that was found among some has a key
-  pub found-key : (found : Option (Bor (List ℕ) × Bor V)) (picked : List (List ℕ × V)) (n : ℕ) → option_map entry_now found ≡ slice_get picked n → All (λ entry. IsKey entry.0) picked → IfSome found (λ item. IsKey item.0.now)
-  found-key None picked n is all = tt
-  found-key (Some item) picked n is all =
-      let at = sym is in
-      subst (λ e. IsKey e.0) (get_or_from_slice_get picked n (entry_now item) (entry_now item) at) (all n (entry_now item) (slice_get_within picked n (entry_now item) at))
-
-  pub found-route : (found : Option (Bor (List ℕ) × Bor V)) → option_map route_read found ≡ option_map routed (option_map entry_now found)
-  found-route None = refl
-  found-route (Some item) = refl
-
   -- what is left behind one that was taken at an end
-  pub first-rest : (item : Option (Bor (List ℕ) × Bor V)) (old new : List (List ℕ × V)) → MatchOption item ((old ≡ []) × (new ≡ [])) (λ x. old ≡ entry_now x ∷ new) → All (λ entry. IsKey entry.0) old → All (λ entry. IsKey entry.0) new
-  first-rest None old new steps all = subst (λ es. All (λ entry. IsKey entry.0) es) (steps.0 ∙ sym steps.1) all
-  first-rest (Some x) old new steps all = All-tail (λ entry. IsKey entry.0) (entry_now x) new (subst (λ es. All (λ entry. IsKey entry.0) es) steps all)
+  pub first-rest : (item : Option (Bor Block × Bor V)) (old new : List (Block × V)) → MatchOption item ((old ≡ []) × (new ≡ [])) (λ x. old ≡ entry_now x ∷ new) → All (λ entry. IsNetwork entry.0) old → All (λ entry. IsNetwork entry.0) new
+  first-rest None old new steps all = subst (λ es. All (λ entry. IsNetwork entry.0) es) (steps.0 ∙ sym steps.1) all
+  first-rest (Some x) old new steps all = All-tail (λ entry. IsNetwork entry.0) (entry_now x) new (subst (λ es. All (λ entry. IsNetwork entry.0) es) steps all)
 
-  pub last-rest : (item : Option (Bor (List ℕ) × Bor V)) (old new : List (List ℕ × V)) → MatchOption item ((old ≡ []) × (new ≡ [])) (λ x. old ≡ new ++ entry_now x ∷ []) → All (λ entry. IsKey entry.0) old → All (λ entry. IsKey entry.0) new
-  last-rest None old new steps all = subst (λ es. All (λ entry. IsKey entry.0) es) (steps.0 ∙ sym steps.1) all
+  pub last-rest : (item : Option (Bor Block × Bor V)) (old new : List (Block × V)) → MatchOption item ((old ≡ []) × (new ≡ [])) (λ x. old ≡ new ++ entry_now x ∷ []) → All (λ entry. IsNetwork entry.0) old → All (λ entry. IsNetwork entry.0) new
+  last-rest None old new steps all = subst (λ es. All (λ entry. IsNetwork entry.0) es) (steps.0 ∙ sym steps.1) all
   last-rest (Some x) old new steps all = λ k d inside.
-      let longer = subst (λ es. All (λ entry. IsKey entry.0) es) steps all in
-      subst (λ (e : List ℕ × V). IsKey e.0) (get_or_append_left new (entry_now x ∷ []) d k inside) (longer k d (omega (arith, inside, length-append new (entry_now x ∷ []))))
+      let longer = subst (λ es. All (λ entry. IsNetwork entry.0) es) steps all in
+      subst (λ (e : Block × V). IsNetwork e.0) (get_or_append_left new (entry_now x ∷ []) d k inside) (longer k d (omega (arith, inside, length-append new (entry_now x ∷ []))))
+
+  -- and behind one that was taken out
+  pub first-rest-taken : (item : Option (Block × V)) (old new : List (Block × V)) → MatchOption item ((old ≡ []) × (new ≡ [])) (λ x. old ≡ x ∷ new) → All (λ entry. IsNetwork entry.0) old → All (λ entry. IsNetwork entry.0) new
+  first-rest-taken None old new steps all = subst (λ es. All (λ entry. IsNetwork entry.0) es) (steps.0 ∙ sym steps.1) all
+  first-rest-taken (Some x) old new steps all = All-tail (λ entry. IsNetwork entry.0) x new (subst (λ es. All (λ entry. IsNetwork entry.0) es) steps all)
+
+  pub last-rest-taken : (item : Option (Block × V)) (old new : List (Block × V)) → MatchOption item ((old ≡ []) × (new ≡ [])) (λ x. old ≡ new ++ x ∷ []) → All (λ entry. IsNetwork entry.0) old → All (λ entry. IsNetwork entry.0) new
+  last-rest-taken None old new steps all = subst (λ es. All (λ entry. IsNetwork entry.0) es) (steps.0 ∙ sym steps.1) all
+  last-rest-taken (Some x) old new steps all = λ k d inside.
+      let longer = subst (λ es. All (λ entry. IsNetwork entry.0) es) steps all in
+      subst (λ (e : Block × V). IsNetwork e.0) (get_or_append_left new (x ∷ []) d k inside) (longer k d (omega (arith, inside, length-append new (x ∷ []))))
 
 -- nothing is made of nothing alone
 pub none_from : {X Y : Type 0} (f : X → Y) (o : Option X) → option_map f o ≡ None → o ≡ None

@@ -26,7 +26,7 @@ use Rattle.art_routes.specs.declared.fault.NetworkTextFault.{NetworkTextFault}
 use Rattle.art_routes.specs.declared.fault.NetworkTextFault.TheVariants.{BadLength}
 use Rattle.art_routes.specs.Networks.{Block, HasBitsBehind, IsNetwork, address_of}
 use Rattle.art_routes.specs.Texts.{IsLengthFault, SayAddress, SayNetwork, address_text, network_text}
-use Rattle.art_routes.proofs.KeyLemmas.{family_most, width_most}
+use Rattle.art_routes.specs.KeyLaws.{family_most, width_most}
 
 -- the segments of sixteen bytes
 segments_long : (n : ℕ) (octets : List ℕ) → length octets ≡ 2 * n → length (segments_of octets) ≡ n

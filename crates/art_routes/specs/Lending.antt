@@ -1,18 +1,20 @@
 -- What a table ends as, where a value of it is borrowed.
 use denote.Param.{number}
-use Rattle.std.specs.Prelude.{◌≡◌, List, Option, OnSome, length}
-use Rattle.std.specs.Borrow.{Array, Fml, LendsSo, MutBor, RattleType, u8}
+use Rattle.std.specs.Prelude.{◌≡◌, List, Option, OnSome}
+use Rattle.std.specs.Borrow.{Fml, LendsSo, MutBor, RattleType}
 use Rattle.art_tree.specs.Entries.{entries_of}
 use Rattle.art_map.specs.MapLending.{seen_row}
 use Rattle.art_map.specs.contracts.view.EntryList as list
-use Rattle.art_routes.specs.Networks.{Block}
+use Rattle.art_routes.specs.Keys.{key_text}
+use Rattle.art_routes.specs.Networks.{Block, IsNetwork}
 use Rattle.art_routes.specs.Tables.{routes_with_value}
+use Rattle.art_routes.specs.contracts.route_key.RouteKey as key
 use Rattle.art_routes.specs.contracts.table.TableOver.{the_row}
 
 -- the type of a table of these values, as the logic names it
 abbrev pub table_row : RattleType → RattleType
 table_row V =
-    the_row (seen_row (Array u8 18) V (number 16) (list.the_row (Array u8 18) V) (λ key. key) (λ key. length key ≡ 18) (λ tree. entries_of (λ key. key) tree.arena)) V
+    the_row (seen_row (key.the_row) V (number 20) (list.the_row (key.the_row) V) key_text IsNetwork (λ tree. entries_of key_text tree.arena)) V
     (record { entries = λ entries. entries })
 
 -- a table ends with the value that was left behind the reference in the route to this network, or unchanged

@@ -1,5 +1,11 @@
 pub mod Networks
 pub mod Tables
+pub mod Strides
+pub mod StrideLaws
 pub mod Keys
+pub mod Children
+pub mod KeyLaws
+pub mod Ways
+pub mod Readings
 pub mod Lending
 pub mod Texts

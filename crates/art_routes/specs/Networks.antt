@@ -1,5 +1,5 @@
 -- Addresses and networks, as numbers.
-use Rattle.std.specs.Prelude.{◌≡◌, ◌≢◌, ◌⊎◌, ℕ, ◌-◌, ◌*◌, ◌/◌, ◌%◌, ◌^◌, ◌<◌, ◌≤◌, Bool, ◌==◌, ◌&&◌, nat_le}
+use Rattle.std.specs.Prelude.{◌≡◌, ◌≢◌, ◌⊎◌, ℕ, ◌-◌, ◌*◌, ◌/◌, ◌%◌, ◌^◌, ◌<◌, ◌≤◌, Bool, ◌==◌, ◌&&◌, nat_le, nat_lt}
 use Rattle.std.specs.Net.Addr.{ipv4_bits, ipv6_bits}
 use Rattle.std.specs.Ordering.{nat_cmp, ordering_then}
 use Rattle.std.specs.declared.cmp.Ordering.{Ordering}
@@ -42,6 +42,10 @@ contains network address =
 -- the other network is this one, or a part of it
 abbrev pub covers : Block → Block → Bool
 covers network other = contains network other.address && nat_le network.length other.length
+
+-- the other network is a part of this one, and not this one
+abbrev pub is_around : Block → Block → Bool
+is_around network other = covers network other && nat_lt network.length other.length
 
 -- the network of the first bits of an address, so many of them
 abbrev pub network_around : Address → ℕ → Block

@@ -1,10 +1,11 @@
 -- A table as the list of its routes, each a network and its value, in the order of the networks.
-use Rattle.std.specs.Prelude.{◌≡◌, ◌≤◌, true, false, not, List, [], ◌∷◌, ◌++◌, All, AllPairs, Contains, Option, Some, None, filter, map, reverse, if◌then◌else◌}
+use Rattle.std.specs.Prelude.{◌≡◌, ◌≤◌, Bool, true, false, not, ◌&&◌, List, [], ◌∷◌, ◌++◌, All, AllPairs, Contains, Option, Some, None, filter, map, reverse, if◌then◌else◌}
 use Rattle.std.specs.Borrow.{Bor}
+use Rattle.std.specs.List.{list_any}
 use Rattle.std.specs.Ordering.{is_eq, is_ge, is_gt, match_ordering}
 use Rattle.std.specs.declared.cmp.Ordering.TheVariants.{Less}
 use Rattle.art_routes.specs.declared.address.Address.{Address}
-use Rattle.art_routes.specs.Networks.{Block, contains, covers, network_order}
+use Rattle.art_routes.specs.Networks.{Block, contains, covers, is_around, network_order}
 
 module _ {V : Type 0} where
   -- a route behind a reference to its value
@@ -60,9 +61,27 @@ module _ {V : Type 0} where
     pub matches : covers route.0 network ≡ true
     pub longest : All (λ other. covers other.0 network ≡ true → other.0.length ≤ route.0.length) routes
 
+  -- no route is to a network around this one
+  abbrev pub NoneAround : List (Block × V) → Block → Type 0
+  NoneAround routes network = All (λ route. is_around route.0 network ≡ false) routes
+
+  -- this one of the routes is to a network around this one, and no longer one is
+  pub record IsParent (routes : List (Block × V)) (network : Block) (route : Block × V) : Type 0 where
+    pub listed : Contains routes route
+    pub around : is_around route.0 network ≡ true
+    pub longest : All (λ other. is_around other.0 network ≡ true → other.0.length ≤ route.0.length) routes
+
   -- the routes to this network and to parts of it, in order
   abbrev pub covered : Block → List (Block × V) → List (Block × V)
   covered network routes = filter (λ route. covers network route.0) routes
+
+  -- the part is one of the network, and no route is to one between
+  abbrev pub is_child : Block → List (Block × V) → Block → Bool
+  is_child network routes part = is_around network part && not (list_any (λ other. is_around network other.0 && is_around other.0 part) routes)
+
+  -- the routes to parts of this network with none between, in order
+  abbrev pub children : Block → List (Block × V) → List (Block × V)
+  children network routes = filter (λ route. is_child network routes route.0) routes
 
   -- the routes to this network and to those around it, the longest first
   abbrev pub covering : Block → List (Block × V) → List (Block × V)

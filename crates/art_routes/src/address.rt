@@ -1,5 +1,5 @@
 //! Addresses as numbers.
-ghost use Rattle.std.specs.Prelude.{◌≡◌, ◌⊎◌, ◌≢◌, ◌↔◌, ◌-◌, ◌*◌, ◌^◌, ℕ, ◌<◌, ◌≤◌, IsTrue};
+ghost use Rattle.std.specs.Prelude.{◌≡◌, ◌⊎◌, ◌≢◌, ◌↔◌, ◌-◌, ◌*◌, ◌^◌, ◌<◌, ◌≤◌, IsTrue};
 ghost use Rattle.std.specs.Net.Grammar.{IsIpText};
 ghost use Rattle.std.specs.Net.Text.{ip_text};
 ghost use Rattle.art_routes.specs.Networks.{HasBitsBehind, address_of, first_bits};
@@ -76,16 +76,4 @@ pub(crate) fn first_address(address: Address, length: u8) -> u128
     } else {
         address.bits >> behind << behind
     }
-}
-
-/// How many of their first bits two addresses share, where they have as many bits.
-pub(crate) fn shared_bits(left: Address, right: Address) -> u8
-    requires width { left.width ≤ 128 }
-    requires fits { left.bits < 2 ^ left.width }
-    ensures within { result ≤ left.width }
-    ensures shared { right.bits < 2 ^ right.width → left.width ≡ right.width → (count : ℕ) → count ≤ left.width →
-        (count ≤ result) ↔ (first_bits left count ≡ first_bits right count) }
-{
-    let unused = 128 - left.width;
-    ((left.bits ^ right.bits).leading_zeros() as u8).saturating_sub(unused)
 }

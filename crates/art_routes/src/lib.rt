@@ -4,27 +4,36 @@
 #![tactic(auto)]
 
 mod address;
+mod children;
 mod covering;
 mod fault;
 mod holds_routes;
 mod network;
+mod reader;
 mod refused_route;
+mod route_key;
 mod routes;
 mod table;
 mod text;
+mod way;
 
+pub use children::Children;
 pub use covering::Covering;
 pub use fault::{NetworkFault, NetworkTextFault};
 pub use network::Network;
+pub use reader::RouteReader;
 pub use refused_route::RefusedRoute;
-pub use routes::Routes;
+pub use routes::{IntoRoutes, Routes};
 pub use table::RouteTable;
 
 /// What the aliases above stand for. The compiler needs these names; no caller writes them.
 #[doc(hidden)]
 pub mod parts {
+    pub use crate::children::ChildrenOver;
     pub use crate::covering::{CoveringOver, ShowsRoutes};
     pub use crate::holds_routes::HoldsRoutes;
+    pub use crate::reader::{ReaderOver, ReadsRoutes};
+    pub use crate::route_key::RouteKey;
     pub use crate::routes::RoutesOver;
     pub use crate::table::TableOver;
 }

@@ -1,15 +1,12 @@
 //! Networks: the addresses that begin with the same bits.
 ghost use Rattle.std.specs.Prelude.{◌≡◌, ◌⊎◌, ◌-◌, ◌^◌, ◌<◌, ◌≤◌, ℕ, IfErr, IfNone, IfOk, IfSome};
-ghost use Rattle.art_routes.specs.Keys.{IsKey, key_text, last_network, network_of};
+ghost use Rattle.art_routes.specs.Keys.{last_network};
 ghost use Rattle.art_routes.specs.Networks.{Block, IsFault, IsNetwork, address_of, contains as contains_address, covers as covers_network, network_around};
 
 use crate::address::{Address, first_address, has_bits_behind, ip_of, number_of};
 use crate::fault::NetworkFault;
 use std::marker::Model;
 use std::net::IpAddr;
-
-/// How many bytes the key of a network has.
-pub(crate) const KEY_LEN: usize = 18;
 
 /// The addresses whose first bits are those of an address, so many of them as the length says, as
 /// `10.0.0.0/8`: all others of its bits are zero. Of IPv4 a network has at most 32, of IPv6 128.
@@ -19,9 +16,9 @@ pub(crate) const KEY_LEN: usize = 18;
 #[derive(Clone, Copy, PartialEq, Eq, PartialOrd, Ord)]
 pub struct Network {
     /// The first address.
-    address: Address,
+    pub(crate) address: Address,
     /// How many bits are given.
-    count: u8,
+    pub(crate) count: u8,
 }
 
 impl Model for Network {
@@ -117,6 +114,14 @@ fn begins(address: Address, length: u8, other: Address) -> bool
     other.width == address.width && first_address(other, length) == address.bits
 }
 
+/// Whether the network covers the first bits of an address, so many of them.
+pub(crate) fn covers_bits(network: &Network, address: Address, length: u8) -> bool
+    requires fits { address.bits < 2 ^ address.width }
+    ensures { result ≡ covers_network network.now (record { address = address; length = length }) }
+{
+    begins(network.address, network.count, address) && network.count <= length
+}
+
 /// The first address of a network, as a number, and its length.
 pub(crate) fn parts(network: &Network) -> (Address, u8)
     ensures address { result.0 ≡ network.now.address }
@@ -127,15 +132,6 @@ pub(crate) fn parts(network: &Network) -> (Address, u8)
     ensures network { IsNetwork network.now }
 {
     (network.address, network.count)
-}
-
-/// The first address of the network of a key, as a number, and its length.
-pub(crate) fn key_parts(key: &[u8; KEY_LEN]) -> (Address, u8)
-    requires { IsKey key.now }
-    ensures address { result.0 ≡ (network_of key.now).address }
-    ensures length { result.1 ≡ (network_of key.now).length }
-{
-    parts(&network_from(key))
 }
 
 /// The network of the first bits of an address, so many of them.
@@ -151,34 +147,6 @@ pub(crate) fn network_at(address: Address, length: u8) -> Network
             bits: first_address(address, length),
         },
         count: length,
-    }
-}
-
-/// The key of a network. Keys sort as networks do.
-pub(crate) fn key_of(network: &Network) -> [u8; KEY_LEN]
-    ensures key { result ≡ key_text network.now }
-    ensures network { IsNetwork network.now }
-{
-    let mut key = [0; KEY_LEN];
-    key[0] = network.address.width;
-    key[KEY_LEN - 1] = network.count;
-    key[1..KEY_LEN - 1].copy_from_slice(&network.address.bits.to_be_bytes());
-    key
-}
-
-/// The network of a key.
-pub(crate) fn network_from(key: &[u8; KEY_LEN]) -> Network
-    requires { IsKey key.now }
-    ensures { result ≡ network_of key.now }
-{
-    let mut octets = [0; 16];
-    octets.copy_from_slice(&key[1..KEY_LEN - 1]);
-    Network {
-        address: Address {
-            width: key[0],
-            bits: u128::from_be_bytes(octets),
-        },
-        count: key[KEY_LEN - 1],
     }
 }
 

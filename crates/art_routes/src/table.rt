@@ -1,21 +1,25 @@
 //! Tables of routes.
-ghost use Rattle.std.specs.Prelude.{◌≡◌, ◌≢◌, ◌↔◌, ◌⊎◌, ◌<◌, ◌≤◌, ◌^◌, [], All, IfErr, IfOk, IfSome, IsTrue, MatchOption, None, OnErr, OnOk, length};
+ghost use Rattle.std.specs.Prelude.{◌≡◌, ◌≢◌, ◌↔◌, ◌⊎◌, ◌<◌, ◌≤◌, ◌^◌, [], ◌∷◌, All, IfErr, IfNone, IfOk, IfSome, IsTrue, MatchOption, None, OnErr, OnOk, length, map, true, false};
 ghost use Rattle.std.specs.Borrow.{sem};
 ghost use Rattle.std.specs.Option.{option_copied, option_copied_mut, option_map};
-ghost use Rattle.art_routes.specs.Keys.{IsKey, last_up_to as last_route_up_to, route_read};
+ghost use Rattle.art_nodes.specs.declared.pointers.OpaqueNodePtr.{OpaqueNodePtr as Pointer};
+ghost use Rattle.art_map.specs.Shrinking.{NeedsNode};
+ghost use Rattle.art_routes.specs.Keys.{key_text};
 ghost use Rattle.art_routes.specs.Lending.{LendsRoute};
-ghost use Rattle.art_routes.specs.Networks.{IsNetwork, address_of};
-ghost use Rattle.art_routes.specs.Tables.{AreInOrder, at_or_after, behind, covered as covered_routes, covering as covering_routes, IsFirstToNetwork, IsLongest, IsLongestOver, IsShortest, NoneContains, NoneCovers, put_route, put_routes, route_now, value_of, without_route};
+ghost use Rattle.art_routes.specs.Networks.{Block, IsNetwork, address_of, covers};
+ghost use Rattle.art_routes.specs.Tables.{AreInOrder, at_or_after, behind, children as children_of, covered as covered_routes, covering as covering_routes, IsFirstToNetwork, IsLongest, IsLongestOver, IsParent, IsShortest, NoneAround, NoneContains, NoneCovers, put_route, put_routes, route_now, value_of, without_route};
 
-use crate::address::{Address, number_of, shared_bits};
+use crate::address::{Address, number_of};
+use crate::children::{Children, ChildrenOver};
 use crate::covering::{Covering, CoveringOver};
 use crate::holds_routes::HoldsRoutes;
-use crate::network::{
-    KEY_LEN, Network, key_of, key_parts, last_of, network_at, network_from, parts,
-};
+use crate::network::{Network, last_of, parts};
+use crate::reader::{RouteReader, reader_of, visits_over};
 use crate::refused_route::RefusedRoute;
-use crate::routes::{Routes, RoutesOver};
-use art_map::{ArtMap, DEFAULT_PREFIX_LEN};
+use crate::route_key::{RouteKey, key_of};
+use crate::routes::{IntoRoutes, Routes, RoutesOver};
+use crate::way::PREFIX_LEN;
+use art_map::ArtMap;
 use std::alloc::{AllocError, Global};
 use std::marker::{Model, PhantomData};
 use std::net::IpAddr;
@@ -30,21 +34,20 @@ pub struct TableOver<M: HoldsRoutes<V>, V> {
 
 impl<M: HoldsRoutes<V>, V> Model for TableOver<M, V> {
     ghost use Rattle.std.specs.Prelude.{List, All};
-    ghost use Rattle.art_routes.specs.Keys.{IsKey, routes_of};
-    ghost use Rattle.art_routes.specs.Networks.{Block};
+    ghost use Rattle.art_routes.specs.Networks.{Block, IsNetwork};
 
     ghost Value = { List (Block × V) };
 
-    ghost view = { λ table. routes_of (M.entries table.routes) };
+    ghost view = { λ table. M.entries table.routes };
 
-    ghost invariant = { λ table. All (λ entry. IsKey entry.0) (M.entries table.routes) };
+    ghost invariant = { λ table. All (λ entry. IsNetwork entry.0) (M.entries table.routes) };
 }
 
 /// The routes: values by networks, in the order of the networks, one for each. No call has a condition.
-pub type RouteTable<V> = TableOver<ArtMap<[u8; KEY_LEN], V, DEFAULT_PREFIX_LEN>, V>;
+pub type RouteTable<V> = TableOver<ArtMap<RouteKey, V, PREFIX_LEN>, V>;
 
 // The value of an entry that was replaced.
-fn value_alone<V>(entry: Option<([u8; KEY_LEN], V)>) -> Option<V>
+fn value_alone<V>(entry: Option<(RouteKey, V)>) -> Option<V>
     ensures { result ≡ option_map (λ entry. entry.1) entry }
 {
     let (_, value) = entry?;
@@ -87,7 +90,7 @@ impl<V> RouteTable<V> {
     /// Adds a route. Where there is one to the same network, its value is replaced and returned.
     ///
     /// Only an allocation failure refuses a route, and only one to a network that has none: it is
-    /// returned, and the routes are unchanged. Costs as much as [`ArtMap::insert`] of a key of 18 bytes.
+    /// returned, and the routes are unchanged. Costs as much as [`ArtMap::insert`] of a key of 6 bytes for IPv4 and of 20 at most for IPv6.
     pub fn insert(&mut self, network: Network, value: V) -> Result<Option<V>, RefusedRoute<V>>
         ensures replaced { IfOk result (λ before. before ≡ value_of self.old network) }
         ensures routes { OnOk result (self.new ≡ put_route self.old network value) }
@@ -109,7 +112,7 @@ impl<V> RouteTable<V> {
     }
 
     /// The value of the route to this very network, or None where there is none. Costs as much as
-    /// [`ArtMap::get`] of a key of 18 bytes. Takes no memory.
+    /// [`ArtMap::get`] of a key of 6 bytes for IPv4 and of 20 at most for IPv6. Takes no memory.
     pub fn get(&self, network: &Network) -> Option<&V>
         ensures { option_copied result ≡ value_of self.now network.now }
     {
@@ -140,11 +143,14 @@ impl<V> RouteTable<V> {
 
     /// Removes the route to this very network, if there is one, and returns its value.
     ///
-    /// An allocation may fail only where there is such a route. The routes are then unchanged.
+    /// An allocation may fail only where there is such a route, and its key's leaf is one of 5, 17 or 49 children
+    /// of its parent, since a node of a smaller kind takes its place. The routes are then unchanged.
     pub fn remove(&mut self, network: &Network) -> Result<Option<V>, AllocError>
         ensures removed { IfOk result (λ value. value ≡ value_of self.old network.now) }
         ensures routes { OnOk result (self.new ≡ without_route self.old network.now) }
         ensures refused { OnErr result (value_of self.old network.now ≢ None) }
+        ensures needs_node { OnErr result (NeedsNode (Pointer Block V PREFIX_LEN)
+            (map (λ route. key_text route.0) self.old) (key_text network.now)) }
         ensures same_routes { OnErr result (self.new ≡ self.old) }
     {
         self.routes.remove(&key_of(network))
@@ -215,19 +221,18 @@ impl<V> RouteTable<V> {
         self.routes.reserve(additional)
     }
 
-    // Key and value of the last route whose network does not come after this one.
-    fn last_up_to(&self, network: &Network) -> Option<(&[u8; KEY_LEN], &V)>
-        ensures route { option_map route_read result ≡ last_route_up_to network.now self.now }
-        ensures key { IfSome result (λ (key, value). IsKey key.now) }
+    /// The table, to be read with so many node visits at most. Takes no memory.
+    ///
+    /// Each look-up below is that of a reader with as many visits as it needs, so it makes no more, whatever the
+    /// table. [`RouteReader`](crate::RouteReader) has an example.
+    pub fn reader(&self, budget: usize) -> RouteReader<'_, V>
+        ensures routes { result.routes ≡ self.now }
+        ensures budget { result.budget ≡ budget }
     {
-        self.routes.last_up_to(&key_of(network))
+        reader_of(self.routes.tree(), budget)
     }
 
-    // The longest route that covers the first bits of an address, so many of them.
-    //
-    // The last route that does not come after the network of those bits contains the address, and no
-    // longer one does, or no route that does is longer than what it shares with the address. Then as
-    // many bits take the place of those. Each step is one descent.
+    // The longest route that covers the first bits of an address, so many of them: one way down the tree.
     pub(crate) fn longest_over(&self, address: Address, length: u8) -> Option<(Network, &V)>
         requires family { (address.width ≡ 32) ⊎ (address.width ≡ 128) }
         requires fits { address.bits < 2 ^ address.width }
@@ -235,32 +240,16 @@ impl<V> RouteTable<V> {
         ensures { MatchOption result (NoneCovers self.now (record { address = address; length = length }))
             (λ route. IsLongestOver self.now (record { address = address; length = length }) (route_now route)) }
     {
-        self.routes_ascend();
-        let mut most = length;
-        'descent: while let Some((key, value)) = self.last_up_to(&network_at(address, most)) {
-            let (first, count) = key_parts(key);
-            if first.width != address.width {
-                return None;
-            }
-            let shared = shared_bits(address, first);
-            if count <= shared {
-                return Some((network_from(key), value));
-            }
-            // Never so: a route that does not contain the address shares fewer bits.
-            if most <= shared {
-                return None;
-            }
-            most = shared;
-        }
-        None
+        let mut reader = self.reader(visits_over(length));
+        reader.longest_over(address, length)
     }
 
     /// The longest route whose network contains the address, with its value, or None where none does.
     /// IPv4 and IPv6 never match each other.
     ///
-    /// Each step is one descent. Another follows only where the route before the address does not contain
-    /// it, with fewer bits of the address: one step where a route contains the address and some ten where
-    /// none does, in tables as routers have them; 33 for IPv4 and 129 for IPv6 at most. Takes no memory.
+    /// One way down the tree, whatever the table: it visits at most one node more than the key of the address has
+    /// bytes, which are 6 for IPv4 and 20 for IPv6. It is [`RouteReader::longest_match`](crate::ReaderOver::longest_match)
+    /// with a budget of 7 or 21 visits, whose contract says so. Takes no memory.
     ///
     /// (from tests/art_routes/tests.rt.txt)
     /// ```rust
@@ -271,9 +260,8 @@ impl<V> RouteTable<V> {
         ensures { MatchOption result (NoneContains self.now (address_of address))
             (λ route. IsLongest self.now (address_of address) (route_now route)) }
     {
-        self.routes_ascend();
-        let address = number_of(address);
-        self.longest_over(address, address.width)
+        let mut reader = self.reader(visits_over(number_of(address).width));
+        reader.longest_match(address)
     }
 
     /// The longest route whose network covers this one, with its value, or None where none does. Costs as
@@ -282,15 +270,13 @@ impl<V> RouteTable<V> {
         ensures { MatchOption result (NoneCovers self.now network.now)
             (λ route. IsLongestOver self.now network.now (route_now route)) }
     {
-        let (first, length) = parts(network);
-        self.longest_over(first, length)
+        let mut reader = self.reader(visits_over(network.length()));
+        reader.longest_match_of(network)
     }
 
     /// The shortest route whose network contains the address, with its value, or None where none does.
     ///
-    /// Goes from the longest to the shortest: costs as much as [`longest_match`](Self::longest_match) for
-    /// each route that contains the address, and no more than 33 steps for IPv4 and 129 for IPv6. Takes no
-    /// memory.
+    /// Costs as much as [`longest_match`](Self::longest_match). Takes no memory.
     ///
     /// (from tests/art_routes/tests.rt.txt)
     /// ```rust
@@ -300,25 +286,71 @@ impl<V> RouteTable<V> {
         ensures { MatchOption result (NoneContains self.now (address_of address))
             (λ route. IsShortest self.now (address_of address) (route_now route)) }
     {
-        self.routes_ascend();
-        let number = number_of(address);
-        let mut most = number.width;
-        let mut found = None;
-        'descent: while let Some(route) = self.longest_over(number, most) {
-            let bits = route.0.length();
-            found = Some(route);
-            if bits == 0 {
-                return found;
+        let mut reader = self.reader(visits_over(number_of(address).width));
+        reader.shortest_match(address)
+    }
+
+    /// The longest route to a network around this one, with its value, or None where there is none: the one that
+    /// counts where that to this network is removed. Costs as much as [`longest_match`](Self::longest_match).
+    ///
+    /// (from tests/art_routes/tests.rt.txt)
+    /// ```rust
+    /// assert!(rt; is_value(table.parent(&ten), 9) && is_value(table.parent(&eight), 0));
+    /// ```
+    pub fn parent(&self, network: &Network) -> Option<(Network, &V)>
+        ensures { MatchOption result (NoneAround self.now network.now)
+            (λ route. IsParent self.now network.now (route_now route)) }
+    {
+        let mut reader = self.reader(visits_over(network.length()));
+        reader.parent(network)
+    }
+
+    // The first route behind a network, where another one covers it.
+    pub(crate) fn next_covered(&self, network: &Network, after: &Network) -> Option<(Network, &V)>
+        ensures covered { IfSome result (λ route. covers network.now (route_now route).0 ≡ true) }
+        ensures first { IfSome result (λ route. (rest : _) × (behind after.now self.now ≡ route_now route ∷ rest)) }
+        ensures none { IfNone result ((route : _) (rest : _) →
+            behind after.now self.now ≡ route ∷ rest → covers network.now route.0 ≡ false) }
+    {
+        match self.iter_after(after).next() {
+            Some(route) => {
+                if network.covers(&route.0) {
+                    Some(route)
+                } else {
+                    None
+                }
             }
-            most = bits - 1;
+            None => None,
         }
-        found
+    }
+
+    /// The routes to parts of this network such that no route is to one between, in order: those of which it is the
+    /// [`parent`](Self::parent), and where it has no route would be.
+    ///
+    /// Each costs as much as the first of [`iter_after`](Self::iter_after), however many routes are inside it. Takes no
+    /// memory.
+    ///
+    /// (from tests/art_routes/tests.rt.txt)
+    /// ```rust
+    /// let mut parts = table.children(&eight);
+    /// assert!(rt; is_value(parts.next(), 9) && is_value(parts.next(), 11) && parts.next().is_none());
+    /// ```
+    pub fn children(&self, network: &Network) -> Children<'_, V>
+        ensures { result ≡ children_of network.now self.now }
+    {
+        self.routes_ascend();
+        let _is = parts(network);
+        ChildrenOver {
+            table: self,
+            network: *network,
+            after: Some(*network),
+            value: PhantomData,
+        }
     }
 
     /// The routes to this network and to those around it, the longest first.
     ///
-    /// Each costs as much as [`longest_match`](Self::longest_match), and all of them together at most 33
-    /// steps for IPv4 and 129 for IPv6. Takes no memory.
+    /// Each costs as much as [`longest_match`](Self::longest_match). Takes no memory.
     ///
     /// (from tests/art_routes/tests.rt.txt)
     /// ```rust
@@ -387,5 +419,30 @@ impl<V: Drop> RouteTable<V> {
         ensures same_routes { self.new ≡ self.old }
     {
         self.routes.compact()
+    }
+}
+
+impl<V: Drop> IntoIterator for RouteTable<V> {
+    type Item = (Network, V);
+
+    type IntoIter = IntoRoutes<V>;
+
+    ghost into_iter_gives = { λ table routes. routes ≡ table };
+
+    /// The routes themselves, in order, and from the back in the opposite order. Each takes constant time. Takes no
+    /// memory and never fails.
+    ///
+    /// (from tests/art_routes/tests.rt.txt)
+    /// ```rust
+    /// let mut routes = table.into_iter();
+    /// let (Some((first, _)), Some((last, _))) = (routes.next(), routes.next_back()) else {
+    ///     panic!(rt; "no route");
+    /// };
+    /// ```
+    fn into_iter(self) -> IntoRoutes<V> {
+        RoutesOver {
+            entries: self.routes.into_iter(),
+            value: PhantomData,
+        }
     }
 }

@@ -2,7 +2,7 @@ use Rattle.std.proofs.Common.{◌≡◌, ◌∙◌, ℕ, ◌+◌, ◌-◌, ◌%�
 use Rattle.std.proofs.Math.Nat.{pow-le-pow_right}
 use Rattle.art_routes.specs.Networks.{IsNetwork}
 use Rattle.art_routes.proofs.BitLemmas.{last_fits}
-use Rattle.art_routes.proofs.KeyLemmas.{family_most}
+use Rattle.art_routes.specs.KeyLaws.{family_most}
 use Rattle.art_routes.proofs.network.last_of.Goals as goal
 
 -- no bit stands behind all of them

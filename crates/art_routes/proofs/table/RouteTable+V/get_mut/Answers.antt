@@ -1,19 +1,19 @@
 use Rattle.std.proofs.Common.{◌≡◌, ◌∙◌, OnSome, ap, refl, subst, sym}
 use Rattle.std.specs.Option.{option_copied_mut}
 use Rattle.art_map.specs.Entries.{entries_with_value}
-use Rattle.art_routes.specs.Keys.{routes_of}
-use Rattle.art_routes.proofs.RouteLemmas.{AreKeys, itself, value-at, with-at, with-keys}
+use Rattle.art_routes.specs.Keys.{key_text}
+use Rattle.art_routes.proofs.RouteLemmas.{AreNetworks, value-at, with-at, with-networks}
 use Rattle.art_routes.proofs.table.RouteTable+V.get_mut.Goals as goal
 
 pub invariant_of-self-lent : goal.invariant_of-self-lent
 invariant_of-self-lent g c = λ w.
     let entries = c.self.inside.routes in
     let key = c.key_of-key.result in
-    let is = subst (λ found. OnSome found (c.get_mut.follows.lender w ≡ entries_with_value itself entries key w)) c.in-Some.is (c.get_mut.follows.holds w) in
-    subst (λ es. AreKeys es) (sym is) (with-keys entries key w c.self.invariant)
+    let is = subst (λ found. OnSome found (c.get_mut.follows.lender w ≡ entries_with_value key_text entries (key_text key) w)) c.in-Some.is (c.get_mut.follows.holds w) in
+    subst (λ es. AreNetworks es) (sym is) (with-networks entries (key_text key) w c.self.invariant)
 
 pub invariant_of-self : goal.invariant_of-self
-invariant_of-self g c = subst (λ es. AreKeys es) (sym c.get_mut.follows.holds-at-none) c.self.invariant
+invariant_of-self g c = subst (λ es. AreNetworks es) (sym c.get_mut.follows.holds-at-none) c.self.invariant
 
 pub returns-in-Some : goal.returns-in-Some
 returns-in-Some g c =
@@ -24,7 +24,7 @@ returns-in-Some g c =
     let written = c.key_of-key.ensures in (
       (
         refl,
-        λ w. ap routes_of (subst (λ found. OnSome found (c.get_mut.follows.lender w ≡ entries_with_value itself entries key w)) c.in-Some.is (c.get_mut.follows.holds w)) ∙ with-at entries routes c.self.view_is c.self.invariant key network written.network written.key w,
+        λ w. (subst (λ found. OnSome found (c.get_mut.follows.lender w ≡ entries_with_value key_text entries (key_text key) w)) c.in-Some.is (c.get_mut.follows.holds w)) ∙ with-at entries routes c.self.view_is c.self.invariant key network written.network written.key w,
         refl,
       ),
       record {
@@ -40,7 +40,7 @@ returns-in-None g c =
     let key = c.key_of-key.result in
     let network = c.args.network.now in
     let written = c.key_of-key.ensures in (
-      (refl, λ w. tt, ap routes_of c.get_mut.follows.holds-at-none ∙ c.self.view_is),
+      (refl, λ w. tt, c.get_mut.follows.holds-at-none ∙ c.self.view_is),
       record {
         writes_back = tt;
         value = ap option_copied_mut (sym c.in-None.is) ∙ c.get_mut.ensures.value ∙ value-at entries routes c.self.view_is c.self.invariant key network written.network written.key;
