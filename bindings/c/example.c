@@ -1,4 +1,4 @@
-/* Metals by their names and by their numbers: build it with `cc example.c ../out/libart.a`. */
+/* Metals by their names and by their numbers: in a clone `cc example.c ../prebuilt/x86_64-linux/libart.a` builds it here. */
 #include "art.h"
 #include <stdio.h>
 #include <string.h>

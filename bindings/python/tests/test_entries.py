@@ -18,10 +18,6 @@ except ImportError:
     set_nomemory = None
 
 
-# By ctypes a call is several steps, which threads, the collector and refused objects may part.
-IS_COMPILED = SortedMap.__base__.__module__ == "verified_art._in_c"
-
-
 class Value:
     """What a weak reference can be made of."""
 
@@ -243,10 +239,21 @@ class References(Whole):
         self.assertEqual([it() for it in seen], [None, None])
 
     def test_a_long_chain_of_maps_is_dropped(self):
-        made = SortedMap()
-        for _ in range(100_000):
-            made = SortedMap(inner=made)
-        del made
+        class OfItsBase(SortedMap.__base__):
+            pass
+
+        for kind in (SortedMap, OfItsBase):
+            made = kind()
+            for _ in range(300_000):
+                outer = kind()
+                outer["inner"], made = made, outer
+            del made, outer
+
+    def test_the_bases_have_no_objects_of_their_own(self):
+        # Python's own dealloc, which such an object would not have, drops a long chain without a deep stack.
+        for kind in (SortedMap, RouteTable):
+            self.assertRaisesRegex(TypeError, "no objects of its own", kind.__base__)
+            self.assertRaisesRegex(TypeError, "no objects of its own", kind.__base__.__new__, kind.__base__)
 
     def test_a_walk_keeps_its_map(self):
         walk = iter(SortedMap.fromkeys(range(100), 1).items())
@@ -308,7 +315,6 @@ class CodeInTheMiddle(Whole):
                     self.assertIs(type(next(iter(made))), int)
                 self.assert_whole(made, dict(made.items()))
 
-    @unittest.skipUnless(IS_COMPILED, "the module is not compiled")
     def test_a_collector_that_changes_the_map(self):
         self.addCleanup(gc.set_threshold, *gc.get_threshold())
         choose = random.Random(6)
@@ -336,7 +342,6 @@ class CodeInTheMiddle(Whole):
         gc.set_threshold(0)
         self.assert_whole(made, dict(made.items()))
 
-    @unittest.skipUnless(IS_COMPILED, "the module is not compiled")
     def test_a_collector_that_sets_an_entry_as_the_first_key_is_refused(self):
         self.addCleanup(gc.set_threshold, *gc.get_threshold())
         made = SortedMap()
@@ -363,7 +368,6 @@ class CodeInTheMiddle(Whole):
         self.assert_whole(made, {1: "late"})
         self.assertRaises(TypeError, made.__setitem__, b"a", 1)
 
-    @unittest.skipUnless(IS_COMPILED, "the module is not compiled")
     def test_a_collector_that_empties_the_list_of_an_update(self):
         environment = {**os.environ, "PYTHONPATH": os.pathsep.join(sys.path), "PYTHONMALLOC": "debug"}
         run = subprocess.run([sys.executable, "-c", EMPTIED], env=environment, check=False)
@@ -382,7 +386,6 @@ class CodeInTheMiddle(Whole):
         self.assert_whole(made, {"a": 2, "b": 1, "c": 3, "d": 4})
 
 
-@unittest.skipUnless(IS_COMPILED, "the module is not compiled")
 class Threads(Whole):
     def test_threads_leave_the_map_whole(self):
         self.addCleanup(sys.setswitchinterval, sys.getswitchinterval())
@@ -416,7 +419,7 @@ class Threads(Whole):
         self.assert_whole(made, {key: value for due in dues for key, value in due.items()})
 
 
-@unittest.skipUnless(IS_COMPILED and set_nomemory, "the module is not compiled, or Python's module for tests of its interface is absent")
+@unittest.skipUnless(set_nomemory, "Python's module for tests of its interface is absent")
 class RefusedMemory(Whole):
     def refused_in_turn(self, call):
         """Runs a call with its first allocation refused, with its second, and so on, up to a run that meets no refusal."""

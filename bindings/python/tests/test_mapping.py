@@ -25,13 +25,13 @@ class SortedMapProtocol(mapping_tests.TestMappingProtocol):
 
 
 class SortedMapIteration(unittest.TestCase):
-    """The one test of `TestHashMappingProtocol` that speaks of any mapping. Skipped are its tests of getitem, pop, setdefault
-    and eq, which have keys with a hash of their own; that of repr, which wants the text of a dict; and that of a deep
-    repr, whose RecursionError may be in ctypes, which makes an ArgumentError of it."""
+    """The two tests of `TestHashMappingProtocol` that speak of any mapping. Skipped are its tests of getitem, pop, setdefault
+    and eq, which have keys with a hash of their own; and that of repr, which wants the text of a dict."""
 
     type2test = SortedMap
     _empty_mapping = mapping_tests.BasicTestMappingProtocol._empty_mapping
     test_mutatingiteration = mapping_tests.TestHashMappingProtocol.test_mutatingiteration
+    test_repr_deep = mapping_tests.TestHashMappingProtocol.test_repr_deep
 
 
 class Copies(unittest.TestCase):

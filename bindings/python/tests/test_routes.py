@@ -17,8 +17,6 @@ try:
     import radix
 except ImportError:
     radix = None
-# By ctypes a call is several steps, which the collector may part.
-IS_COMPILED = RouteTable.__base__.__module__ == "verified_art._in_c"
 CALLS = int(os.environ.get("ROUTE_CALLS", 20000))
 
 
@@ -184,6 +182,14 @@ class Calls(unittest.TestCase):
                 self.assertRaises(TypeError, call, key)
         self.assertEqual(table.items(), [("10.0.0.0/8", 1)])
 
+    def test_what_is_no_table_is_named(self):
+        for other in (32, None, 1.5):
+            self.assertRaisesRegex(TypeError, f"^a RouteTable is made of .*, and not of {type(other).__name__}$", RouteTable, other)
+        table = RouteTable()
+        for other in (["10.0.0.0/8"], [("10.0.0.0/8", 1, 2)], "10.0.0.0/8", [5], {"10.0.0.0/8"}):
+            self.assertRaisesRegex(ValueError, "^a pair of a network and a value is needed, and not ", table.update, other)
+        self.assertEqual(len(table), 0)
+
     def test_texts_are_those_of_ipaddress(self):
         for text in ("::/0", "1::/16", "1:0:0:2::/64", "1:0:2::/48", "0:0:1::/48", "::1/128", "1:2:3:4:5:6:7:8/128", "fe80::/10"):
             self.assertEqual(list(RouteTable({text: 1})), [str(ipaddress.ip_network(text))])
@@ -324,7 +330,6 @@ class KeysOfOtherClasses(unittest.TestCase):
                     self.assertEqual(*outcomes)
                     self.assert_whole(table, due)
 
-    @unittest.skipUnless(IS_COMPILED, "the module is not compiled")
     def test_a_collector_that_changes_the_table(self):
         self.addCleanup(gc.set_threshold, *gc.get_threshold())
         rng, table = random.Random(12), RouteTable()
@@ -356,7 +361,7 @@ class KeysOfOtherClasses(unittest.TestCase):
 
     def test_a_long_chain_of_tables_is_dropped(self):
         table = RouteTable()
-        for _ in range(50_000):
+        for _ in range(150_000):
             table = RouteTable({"::/0": table})
             table["10.0.0.0/8"] = iter(table.get("::1"))
         del table

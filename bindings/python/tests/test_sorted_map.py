@@ -1,11 +1,13 @@
 """What a SortedMap does beyond a mapping: order, ranges, prefixes, refused keys, and when values are dropped."""
 
+import importlib.metadata
 import os
 import subprocess
 import sys
 import unittest
 import weakref
 
+import verified_art
 from verified_art import SortedMap
 
 METALS = {"tin": 50, "gold": 79, "silver": 47, "titanium": 22, "tin\0ore": 1050, "": 0}
@@ -125,6 +127,22 @@ class Types(unittest.TestCase):
             pass
 
         self.assertRaisesRegex(TypeError, "not 5", SortedMap().__setitem__, Key(), 1)
+
+    def test_bounds_are_keys_in_an_empty_map_too(self):
+        made = SortedMap()
+        for bounds in ((1.5,), (None, 1.5), ("a", 1.5), ("a", 5), (b"a", "b"), (None, bytearray()), (1, None, 3)):
+            self.assertRaises(TypeError, made.irange, *bounds)
+        for bounds in ((), ("a",), (None, 5), (b"a", b"b"), (2**70, -(2**70)), ("\ud800", "b")):
+            for reverse in (False, True):
+                self.assertEqual(list(made.irange(*bounds, reverse=reverse)), [])
+        made["a"] = 1
+        self.assertEqual(made, {"a": 1})
+
+    def test_what_is_no_argument_is_named(self):
+        for wrong in (True, None, (True,), (True, True, True), 5):
+            self.assertRaisesRegex(TypeError, "^inclusive is a pair of booleans", SortedMap(a=1).irange, "a", "b", wrong)
+        for wrong in (32, None, 1.5):
+            self.assertRaisesRegex(TypeError, f"^a SortedMap is made of .*, and not of {type(wrong).__name__}$", SortedMap, wrong)
 
     def test_an_int_has_no_prefix(self):
         self.assertRaises(TypeError, SortedMap({1: 2}).prefix, 1)
@@ -275,6 +293,11 @@ for call in (lambda: made.__setitem__(long, 1), lambda: made.get(long), lambda: 
 made[b"gold"] = 79
 assert made == {b"tin": 50, b"gold": 79} and len(made) == 2, made
 """
+
+
+class Version(unittest.TestCase):
+    def test_it_is_that_of_the_wheel(self):
+        self.assertEqual(verified_art.__version__, importlib.metadata.version("verified_art"))
 
 
 @unittest.skipUnless(sys.platform == "linux", "the limit of memory is read from /proc")

@@ -1,31 +1,20 @@
 """A sorted mapping of bytes, str or int to any objects, and route tables, over a library whose functions are formally verified.
 
-The entries are held in C where that was compiled, as it is in the wheel, else by ctypes: the one does what the other
-does, faster. Where VERIFIED_ART_DIR names the folder of a library, that one is called, by ctypes."""
+The entries are held in C, by `_in_c`, which has the library inside."""
 
-import os
-from collections.abc import ItemsView, KeysView, Mapping, MutableMapping, Sequence, ValuesView
+from collections.abc import ItemsView, Iterable, KeysView, Mapping, MutableMapping, Sequence, ValuesView
 from operator import index as index_of
 from reprlib import recursive_repr
 
+try:
+    from . import _in_c as _core
+except ImportError as missing:
+    raise ImportError(
+        "verified_art is not compiled here: install its wheel, or `pip install` the folder that it comes from where there is a C compiler"
+    ) from missing
+
 __all__ = ["RouteTable", "SortedMap"]
-
-
-def _held():
-    """The module that holds the entries and the routes."""
-    if "VERIFIED_ART_DIR" not in os.environ:
-        try:
-            from . import _in_c
-
-            return _in_c
-        except ImportError:
-            pass
-    from . import _by_ctypes
-
-    return _by_ctypes
-
-
-_core = _held()
+__version__ = _core.__version__
 
 
 # What a walk gives of each entry.
@@ -126,7 +115,14 @@ def _pairs_of(other):
         return list(other.items())
     if isinstance(other, Mapping) or hasattr(other, "keys"):
         return ((key, other[key]) for key in other.keys())
-    return list(other) if type(other) is tuple else other
+    return list(other) if type(other) is tuple else _iterable(other, "SortedMap")
+
+
+def _iterable(pairs, made):
+    """The pairs that something is made of, where they are any."""
+    if isinstance(pairs, Iterable) or hasattr(pairs, "__getitem__"):
+        return pairs
+    raise TypeError(f"a {made} is made of a mapping or of pairs, and not of {type(pairs).__name__}")
 
 
 class SortedMap(_core.Core, MutableMapping):
@@ -157,7 +153,11 @@ class SortedMap(_core.Core, MutableMapping):
 
     def irange(self, minimum=None, maximum=None, inclusive=(True, True), reverse=False):
         """The keys between two keys, in their order or the reverse; None is no bound."""
-        return self._range(_KEYS, minimum, maximum, inclusive[0], inclusive[1], reverse)
+        try:
+            with_minimum, with_maximum = inclusive
+        except (TypeError, ValueError):
+            raise TypeError("inclusive is a pair of booleans, for the minimum and for the maximum, as (True, False)") from None
+        return self._range(_KEYS, minimum, maximum, with_minimum, with_maximum, reverse)
 
     def prefix(self, prefix, reverse=False):
         """The keys that begin with a prefix, of bytes or str."""
@@ -283,7 +283,11 @@ class RouteTable(_core.Routes):
 
     def update(self, other):
         """Sets the routes of a mapping or of pairs."""
-        for network, value in other.items() if hasattr(other, "items") else other:
+        for pair in other.items() if hasattr(other, "items") else _iterable(other, "RouteTable"):
+            try:
+                network, value = pair
+            except (TypeError, ValueError):
+                raise ValueError(f"a pair of a network and a value is needed, and not {pair!r}") from None
             self[network] = value
 
     def insert(self, network, value):

@@ -3,6 +3,7 @@ from ipaddress import IPv4Address, IPv4Network, IPv6Address, IPv6Network
 from typing import Any, Generic, SupportsIndex, TypeVar, overload
 
 __all__ = ["RouteTable", "SortedMap"]
+__version__: str
 
 K = TypeVar("K", bytes, str, int)
 V = TypeVar("V")

@@ -1,5 +1,5 @@
-/* The entries of a SortedMap, and the routes of a RouteTable (`_routes.h`), in C: what `_by_ctypes.py` does where this is not built. Made for the limited interface
-   of CPython 3.10, so that one build serves each later one.
+/* The entries of a SortedMap, and the routes of a RouteTable (`_routes.h`). Made for the limited interface of CPython 3.10,
+   so that one build serves each later one.
 
    A key is in the library's map, which has the place of its entry: an entry has the key and the value as objects, and
    stands in a list of blocks in the order of the keys, so that a walk needs the library only where it begins and ends. Each
@@ -34,7 +34,15 @@ typedef struct {
     int reverse;
 } Walk;
 
-static PyTypeObject *walk_type;
+static PyTypeObject *core_type, *walk_type;
+
+/* The memory for an object of a class of Python over a base of this module, which has no objects of its own: what such an
+   object lets go of, Python's own dealloc frees without a deep stack, and the limited interface has no way to that. */
+static PyObject *made_over(PyTypeObject *base, PyTypeObject *type) {
+    if (type != base) return ((allocfunc)PyType_GetSlot(type, Py_tp_alloc))(type, 0);
+    PyErr_SetString(PyExc_TypeError, "this is a part of SortedMap or RouteTable, and has no objects of its own");
+    return NULL;
+}
 
 /* ---- keys */
 
@@ -532,14 +540,16 @@ static PyObject *core_range(Core *self, PyObject *arguments) {
     int given, with_minimum, with_maximum, reverse;
     PyObject *minimum, *maximum;
     if (!PyArg_ParseTuple(arguments, "iOOppp", &given, &minimum, &maximum, &with_minimum, &with_maximum, &reverse)) return NULL;
-    if (self->kind == NO_KEYS) return walk_all(self, given, reverse);
+    bool is_bounded = minimum != Py_None || maximum != Py_None;
     Sought from = {0}, to = {0};
     Kind kind = self->kind;
+    /* Where the map has no keys, the bounds are of one type all the same. */
+    if (kind == NO_KEYS && is_bounded && (kind = kind_of(minimum != Py_None ? minimum : maximum)) == NO_KEYS) return NULL;
     if (minimum != Py_None && read_key(kind, minimum, &from) < 0) return NULL;
     PyObject *walk = NULL;
-    if (maximum == Py_None || read_for(self, maximum, &to) == 0) {
+    if (maximum == Py_None || read_key(kind, maximum, &to) == 0) {
         Position low = first_position(&self->order), high = END;
-        if (self->kind != kind) {
+        if (self->kind != NO_KEYS && self->kind != kind) {
             PyErr_SetString(PyExc_RuntimeError, "SortedMap changed during a call");
         } else if ((minimum == Py_None || find_from(self, &from, with_minimum, &low) == 0) &&
                    (maximum == Py_None || find_from(self, &to, !with_maximum, &high) == 0)) {
@@ -684,7 +694,7 @@ static PyType_Spec walk_spec = {
 /* ---- the type */
 
 static PyObject *core_new(PyTypeObject *type, PyObject *Py_UNUSED(arguments), PyObject *Py_UNUSED(named)) {
-    Core *self = (Core *)((allocfunc)PyType_GetSlot(type, Py_tp_alloc))(type, 0);
+    Core *self = (Core *)made_over(core_type, type);
     if (self) begin_order(&self->order);
     return (PyObject *)self;
 }
@@ -749,15 +759,16 @@ static PyType_Spec core_spec = {
 static struct PyModuleDef module = {PyModuleDef_HEAD_INIT, "_in_c", "The entries of a SortedMap, and the routes of a RouteTable.", -1, NULL, NULL, NULL, NULL, NULL};
 
 PyMODINIT_FUNC PyInit__in_c(void) {
-    PyObject *made = PyModule_Create(&module), *core = PyType_FromSpec(&core_spec), *routes = PyType_FromSpec(&routes_spec);
+    PyObject *made = PyModule_Create(&module);
+    PyObject *version = PyUnicode_FromFormat("%u.%u.%u", ART_VERSION_MAJOR, ART_VERSION_MINOR, ART_VERSION_PATCH);
+    core_type = (PyTypeObject *)PyType_FromSpec(&core_spec);
+    routes_type = (PyTypeObject *)PyType_FromSpec(&routes_spec);
     walk_type = (PyTypeObject *)PyType_FromSpec(&walk_spec);
     route_walk_type = (PyTypeObject *)PyType_FromSpec(&route_walk_spec);
-    if (!made || !core || !routes || !walk_type || !route_walk_type || PyModule_AddObjectRef(made, "Core", core) < 0 ||
-        PyModule_AddObjectRef(made, "Routes", routes) < 0) {
-        Py_XDECREF(made);
-        made = NULL;
-    }
-    Py_XDECREF(core);
-    Py_XDECREF(routes);
+    if (!made || !version || !core_type || !routes_type || !walk_type || !route_walk_type ||
+        PyModule_AddObjectRef(made, "Core", (PyObject *)core_type) < 0 ||
+        PyModule_AddObjectRef(made, "Routes", (PyObject *)routes_type) < 0 || PyModule_AddObjectRef(made, "__version__", version) < 0)
+        Py_CLEAR(made);
+    Py_XDECREF(version);
     return made;
 }

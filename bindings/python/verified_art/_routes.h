@@ -28,7 +28,7 @@ typedef struct {
     Given given;
 } RouteWalk;
 
-static PyTypeObject *route_walk_type;
+static PyTypeObject *routes_type, *route_walk_type;
 
 /* ---- networks */
 
@@ -500,7 +500,7 @@ static PyType_Spec route_walk_spec = {
 /* ---- the type */
 
 static PyObject *routes_new(PyTypeObject *type, PyObject *Py_UNUSED(arguments), PyObject *Py_UNUSED(named)) {
-    Routes *self = (Routes *)((allocfunc)PyType_GetSlot(type, Py_tp_alloc))(type, 0);
+    Routes *self = (Routes *)made_over(routes_type, type);
     if (!self) return NULL;
     self->free_place = NO_PLACE;
     uint32_t status = art_routes_new(&self->table);

@@ -1,5 +1,6 @@
 use crate::bounds::KeyBounds;
 use crate::boxed_iter::{ExtractIf, IntoIter, IntoKeys, IntoValues, Iter, IterMut, Range, RangeMut, Values, ValuesMut};
+use crate::chain::{address, Chain};
 use crate::entry::{Entry, OccupiedEntry, VacantEntry};
 use crate::key::{AsKey, Key, Many};
 use crate::range::{Cursor, Keys};
@@ -8,9 +9,8 @@ use crate::words::{Shown, WordMap};
 use std::cmp::Ordering;
 use std::hash::{Hash, Hasher};
 use std::marker::PhantomData;
-use std::mem;
 use std::ops::Index;
-use std::{fmt, ptr};
+use std::{fmt, mem};
 
 #[cfg(not(target_pointer_width = "64"))]
 compile_error!("a value's address has to fit 64 bits");
@@ -42,23 +42,9 @@ compile_error!("a value's address has to fit 64 bits");
 /// sent(verified_art::Map::<std::rc::Rc<()>>::new());
 /// ```
 pub struct Map<V, K: Key = Vec<u8>> {
-    // INVARIANT: each value is the address of a box that only this map has.
+    // INVARIANT: each word is that of one value, and each value has its word here.
     pub(crate) words: WordMap<K>,
-    values: PhantomData<V>,
-}
-
-// The word for a box, which is then this word's alone.
-pub(crate) fn word_of<V>(value: Box<V>) -> u64 {
-    Box::into_raw(value).expose_provenance() as u64
-}
-
-pub(crate) fn address<V>(word: u64) -> *mut V {
-    ptr::with_exposed_provenance_mut(word as usize)
-}
-
-// The box of a word of `word_of`, which no map holds any more.
-pub(crate) unsafe fn box_of<V>(word: u64) -> Box<V> {
-    Box::from_raw(address(word))
+    pub(crate) values: Chain<V>,
 }
 
 impl<V, K: Key> Map<V, K> {
@@ -69,7 +55,7 @@ impl<V, K: Key> Map<V, K> {
 
     /// An empty map, where memory for it is found.
     pub fn try_new() -> Result<Self, Refusal> {
-        Ok(Map { words: WordMap::try_new()?, values: PhantomData })
+        Ok(Map { words: WordMap::try_new()?, values: Chain::default() })
     }
 
     /// A map of entries whose keys ascend, each above the one before, as [`WordMap::from_ascending`] makes it. To `collect`
@@ -99,9 +85,12 @@ impl<V, K: Key> Map<V, K> {
         self.words.is_empty()
     }
 
-    /// Removes all entries, and drops their values.
+    /// Removes all entries, and drops their values. Keeps the memory of the map, and takes none.
     pub fn clear(&mut self) {
-        *self = Self::new();
+        // The map is whole before a value's own drop, which may panic.
+        let values = mem::take(&mut self.values);
+        self.words.clear();
+        drop(values);
     }
 
     /// Reserves memory for more entries, but for their keys and values.
@@ -124,20 +113,20 @@ impl<V, K: Key> Map<V, K> {
     pub fn try_put(&mut self, key: impl AsKey<K>, value: V) -> Result<Option<V>, (V, Refusal)> {
         // The key first: what it is may be asked of code that panics.
         let sought = key.as_key();
-        let word = word_of(Box::new(value));
+        let word = self.values.add(value);
         match self.words.put(sought, word) {
             // SAFETY: the map has the new word in its place.
-            Ok(before) => Ok(before.map(|before| *unsafe { box_of(before) })),
+            Ok(before) => Ok(before.map(|before| unsafe { self.values.take(before) })),
             // SAFETY: the map has not changed.
-            Err(refusal) => Err((*unsafe { box_of(word) }, refusal)),
+            Err(refusal) => Err((unsafe { self.values.take(word) }, refusal)),
         }
     }
 
     /// Adds a key that is not there, and returns the word of its value.
     pub(crate) fn add(&mut self, key: &K::Sought, value: V) -> u64 {
-        let word = word_of(Box::new(value));
+        let word = self.values.add(value);
         // SAFETY: where it is refused, the map does not have the word.
-        granted(self.words.put(key, word).inspect_err(|_| drop(unsafe { box_of::<V>(word) })));
+        granted(self.words.put(key, word).inspect_err(|_| drop(unsafe { self.values.take(word) })));
         word
     }
 
@@ -204,7 +193,7 @@ impl<V, K: Key> Map<V, K> {
 
     pub(crate) fn remove_sought(&mut self, key: &K::Sought) -> Option<V> {
         // SAFETY: the map does not have it any more.
-        granted(self.words.take(key)).map(|word| *unsafe { box_of(word) })
+        granted(self.words.take(key)).map(|word| unsafe { self.values.take(word) })
     }
 
     /// The entry with the least key.
@@ -222,26 +211,38 @@ impl<V, K: Key> Map<V, K> {
     /// Removes the entry with the least key.
     pub fn pop_first(&mut self) -> Option<(K, V)> {
         // SAFETY: the map does not have it any more.
-        self.words.pop_first().map(|(key, word)| (key, *unsafe { box_of(word) }))
+        self.words.pop_first().map(|(key, word)| (key, unsafe { self.values.take(word) }))
     }
 
     /// Removes the entry with the greatest key.
     pub fn pop_last(&mut self) -> Option<(K, V)> {
         // SAFETY: the map does not have it any more.
-        self.words.pop_last().map(|(key, word)| (key, *unsafe { box_of(word) }))
+        self.words.pop_last().map(|(key, word)| (key, unsafe { self.values.take(word) }))
     }
 
     /// Moves all entries of another map into this one, where they replace those with the same keys. What
     /// [`WordMap::append`] says of refused memory holds here too.
     pub fn append(&mut self, other: &mut Self) {
-        // SAFETY: no map has a word that is replaced.
-        self.words.append_words(&mut other.words, |word| drop(unsafe { box_of::<V>(word) }));
+        if self.is_empty() {
+            return mem::swap(self, other);
+        }
+        let (ours, theirs) = (&mut self.values, &mut other.values);
+        self.words.append_words(&mut other.words, |word, replaced| {
+            // SAFETY: this map has the word now, and no map one that is replaced.
+            unsafe {
+                theirs.move_to(ours, word);
+                drop(replaced.map(|word| ours.take(word)));
+            }
+        });
     }
 
     /// Moves the entries from a key on into a map of their own. Where memory is refused, nothing moves.
     pub fn split_off(&mut self, key: impl AsKey<K>) -> Self {
-        // Where it is refused, this map alone has the boxes.
-        Map { words: self.words.split_off(key), values: PhantomData }
+        let (words, moved) = self.words.split_words(key);
+        let mut values = Chain::default();
+        // SAFETY: the words were this map's.
+        moved.into_iter().for_each(|word| unsafe { self.values.move_to(&mut values, word) });
+        Map { words, values }
     }
 
     /// Removes the entries that a closure does not keep. It may change their values. Where it panics, or memory is refused,
@@ -320,55 +321,22 @@ impl<V> Map<V, Vec<u8>> {
 
 /// Entries for one call, whose values are dropped where no map takes them.
 struct Gathered<V, K: Key> {
-    // INVARIANT: each value is the address of a box that nobody else has.
+    // INVARIANT: as of a map.
     many: Many<K::Word>,
-    values: PhantomData<V>,
+    values: Chain<V>,
 }
 
 impl<V, K: Key> Gathered<V, K> {
     fn new() -> Self {
-        Gathered { many: Many::new(), values: PhantomData }
+        Gathered { many: Many::new(), values: Chain::default() }
     }
 
     fn push(&mut self, key: &K::Sought, value: V) {
-        K::push(&mut self.many, key, word_of(Box::new(value)));
+        K::push(&mut self.many, key, self.values.add(value));
     }
 
-    fn loaded(mut self) -> Result<Map<V, K>, Refusal> {
-        let words = WordMap::loaded(&self.many)?;
-        self.many.take_values();
-        Ok(Map { words, values: PhantomData })
-    }
-}
-
-impl<V, K: Key> Drop for Gathered<V, K> {
-    fn drop(&mut self) {
-        // As boxes first: where a drop panics, the others are dropped too.
-        // SAFETY: nobody else has them.
-        let boxes: Vec<Box<V>> = self.many.take_values().into_iter().map(|word| unsafe { box_of(word) }).collect();
-        drop(boxes);
-    }
-}
-
-// Drops the values of the entries to come. Where memory for a step is refused the rest are kept for ever: there is no
-// other way to them.
-struct DropsRest<'a, V, K: Key>(&'a mut Cursor<K>, &'a WordMap<K>, PhantomData<V>);
-
-impl<V, K: Key> Drop for DropsRest<'_, V, K> {
-    fn drop(&mut self) {
-        while let Ok(Some((_, word))) = self.0.try_next(self.1) {
-            // Where a value's own drop panics, this one goes on with the others.
-            let rest = DropsRest::<V, K>(self.0, self.1, PhantomData);
-            // SAFETY: the map is being dropped, and a cursor gives each entry once.
-            drop(unsafe { box_of::<V>(word) });
-            mem::forget(rest);
-        }
-    }
-}
-
-impl<V, K: Key> Drop for Map<V, K> {
-    fn drop(&mut self) {
-        drop(DropsRest::<V, K>(&mut Cursor::all(), &self.words, PhantomData));
+    fn loaded(self) -> Result<Map<V, K>, Refusal> {
+        Ok(Map { words: WordMap::loaded(&self.many)?, values: self.values })
     }
 }
 

@@ -1,5 +1,6 @@
 //! Iterators of maps whose values are in boxes. None that gives values to be changed is `Clone`: it gives each once.
-use crate::boxed::{address, box_of, Map};
+use crate::boxed::Map;
+use crate::chain::address;
 use crate::key::Key;
 use crate::range::{self, gives, gives_all, Cursor};
 use crate::refusal::granted;
@@ -105,7 +106,7 @@ impl<V, K: Key, F: FnMut(&K, &mut V) -> bool> Iterator for ExtractIf<'_, V, K, F
             if (self.picks)(&key, unsafe { lent_mut(word) }) {
                 granted(self.map.words.take(key.sought()));
                 // SAFETY: the map does not have it any more.
-                return Some((key, *unsafe { box_of(word) }));
+                return Some((key, unsafe { self.map.values.take(word) }));
             }
         }
     }

@@ -1,5 +1,6 @@
 //! The place of a key in a map, with its entry or without one.
-use crate::boxed::{address, Map};
+use crate::boxed::Map;
+use crate::chain::address;
 use crate::key::Key;
 use crate::refusal::{granted, Refusal};
 use crate::words::{Shown, WordMap};

@@ -4,7 +4,6 @@ use crate::refusal::{found, Refusal};
 use std::collections::VecDeque;
 use std::fmt;
 use std::hash::Hash;
-use std::mem;
 
 /// What the keys of a map are: `Vec<u8>` (any bytes, in lexicographic order) or `u64`.
 pub trait Key: Calls + Clone + Ord + Hash + Default {}
@@ -64,8 +63,8 @@ impl<W> Many<W> {
         Many { keys: Vec::new(), ends: Vec::new(), values: Vec::new() }
     }
 
-    pub(crate) fn take_values(&mut self) -> Vec<u64> {
-        mem::take(&mut self.values)
+    pub(crate) fn into_values(self) -> Vec<u64> {
+        self.values
     }
 }
 

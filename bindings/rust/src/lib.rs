@@ -8,6 +8,7 @@
 mod bounds;
 mod boxed;
 mod boxed_iter;
+mod chain;
 pub mod entry;
 mod key;
 mod network;

@@ -5,13 +5,15 @@ use std::str::FromStr;
 /// The addresses that begin with the same bits: `10.0.0.0/8`.
 ///
 /// Networks of IPv4 come before those of IPv6; then they go by their first addresses, and of two with one first address
-/// the shorter comes first. An address is a network of its own, of all its bits.
+/// the shorter comes first. It is made of a text by `parse()` or `try_into()`, and of an address, as a network of all its
+/// bits, by `into()`: of an `IpAddr`, `Ipv4Addr` or `Ipv6Addr`, or of its bytes.
 ///
 /// ```
 /// use verified_art::Network;
 ///
 /// let ten: Network = "10.0.0.0/8".parse().unwrap();
 /// assert!(ten.contains("10.1.2.3".parse().unwrap()) && ten.length() == 8);
+/// assert_eq!(Network::from([10, 0, 0, 1]).to_string(), "10.0.0.1/32");
 /// assert!(Network::new([10, 0, 0, 1], 8).is_err());
 /// assert_eq!(Network::truncated([10, 0, 0, 1], 8), Ok(ten));
 /// ```
@@ -129,16 +131,31 @@ impl Network {
     }
 }
 
-impl<A: Into<IpAddr>> From<A> for Network {
-    fn from(address: A) -> Self {
-        let address = address.into();
-        Network { address, length: bits(&address) }
-    }
+// One by one: with an impl for all that is `Into<IpAddr>`, none of `TryFrom<&str>` could stand beside it.
+macro_rules! from_addresses {
+    ($($address:ty),*) => {
+        $(impl From<$address> for Network {
+            fn from(address: $address) -> Self {
+                let address = IpAddr::from(address);
+                Network { address, length: bits(&address) }
+            }
+        })*
+    };
 }
+
+from_addresses!(IpAddr, Ipv4Addr, Ipv6Addr, [u8; 4], [u8; 16], [u16; 8]);
 
 impl fmt::Display for Network {
     fn fmt(&self, out: &mut fmt::Formatter<'_>) -> fmt::Result {
         write!(out, "{}/{}", self.address, self.length)
+    }
+}
+
+impl TryFrom<&str> for Network {
+    type Error = BadNetwork;
+
+    fn try_from(text: &str) -> Result<Self, BadNetwork> {
+        text.parse()
     }
 }
 

@@ -161,6 +161,7 @@ extern "C" {
     pub(crate) fn art_routes_new(map: *mut RawMap) -> u32;
     pub(crate) fn art_routes_free(map: *mut RawMap);
     pub(crate) fn art_routes_len(map: *mut RawMap) -> usize;
+    pub(crate) fn art_routes_clear(map: *mut RawMap);
     pub(crate) fn art_routes_reserve(map: *mut RawMap, additional: usize) -> u32;
     pub(crate) fn art_routes_compact(map: *mut RawMap) -> u32;
     pub(crate) fn art_routes_insert(

@@ -1,4 +1,4 @@
-use crate::boxed::{address, box_of, word_of};
+use crate::chain::{address, Chain};
 use crate::network::Network;
 use crate::raw::{self, RawMap};
 use crate::refusal::{found, granted, Refusal};
@@ -12,32 +12,34 @@ const MOST_AROUND: usize = 129;
 /// A route table: values by IPv4 and IPv6 networks, of which the longest that contains an address is found. The names
 /// are those of `PrefixMap` in the crate `prefix-trie`.
 ///
-/// A network or an address is taken by all calls: a [`Network`], an `IpAddr`, `Ipv4Addr` or `Ipv6Addr`, or their bytes.
-/// IPv4 and IPv6 never match each other. Each value is in a box. Where memory is refused, nothing changes:
-/// [`try_put`](Self::try_put) and the like return the [`Refusal`], the others panic, and `extend` keeps the routes before.
+/// Calls take a [`Network`], as `parse()` makes it of a text, and `into()` of an address. IPv4 and IPv6 never match each
+/// other. Each value is in a box. Where memory is refused, nothing changes: [`try_put`](Self::try_put) and the like return the
+/// [`Refusal`], the others panic, and `extend` keeps the routes before. `clear` and drops take no memory.
 ///
 /// ```
-/// use verified_art::{Network, RouteTable};
+/// use std::net::IpAddr;
+/// use verified_art::RouteTable;
 ///
-/// let network = |text: &str| text.parse::<Network>().unwrap();
 /// let mut routes = RouteTable::new();
-/// routes.insert(network("10.0.0.0/8"), "office");
-/// routes.insert(network("10.1.0.0/16"), "lab");
-/// routes.insert(network("2001:db8::/32"), "guests");
-/// assert_eq!(routes.get_lpm([10, 1, 2, 3]), Some((network("10.1.0.0/16"), &"lab")));
-/// assert_eq!(routes.get_lpm([10, 2, 2, 3]), Some((network("10.0.0.0/8"), &"office")));
-/// assert_eq!(routes.get_lpm([11, 2, 2, 3]), None);
-/// assert_eq!(routes.children(network("10.0.0.0/8")).count(), 2);
-/// assert_eq!(routes.remove(network("10.1.0.0/16")), Some("lab"));
+/// routes.insert("10.0.0.0/8".parse().unwrap(), "office");
+/// routes.insert("10.1.0.0/16".parse().unwrap(), "lab");
+/// routes.insert("2001:db8::/32".parse().unwrap(), "guests");
+/// let (network, name) = routes.get_lpm("10.1.2.3".parse().unwrap()).unwrap();
+/// assert_eq!((network.to_string(), *name), ("10.1.0.0/16".to_string(), "lab"));
+/// let address: IpAddr = "10.2.2.3".parse().unwrap();
+/// assert_eq!(routes.get_lpm(address.into()).unwrap().1, &"office");
+/// assert_eq!(routes.get_lpm([11, 2, 2, 3].into()), None);
+/// assert_eq!(routes.children("10.0.0.0/8".parse().unwrap()).count(), 2);
+/// assert_eq!(routes.remove("10.1.0.0/16".parse().unwrap()), Some("lab"));
 /// ```
 pub struct RouteTable<V> {
-    // INVARIANT: each value is the address of a box that only this table has. Moved with this struct: what moved is used no
+    // INVARIANT: each word is that of one value, and each value has its word here. Moved with this struct: what moved is used no
     // more. A copy is for one call that only looks.
     raw: RawMap,
-    values: PhantomData<V>,
+    values: Chain<V>,
 }
 
-// SAFETY: as for `WordMap`; and the values go with the table, or are looked at by a shared reference to it.
+// SAFETY: as for `WordMap`.
 unsafe impl<V: Send> Send for RouteTable<V> {}
 unsafe impl<V: Sync> Sync for RouteTable<V> {}
 
@@ -52,7 +54,7 @@ impl<V> RouteTable<V> {
         let mut raw = RawMap::EMPTY;
         // SAFETY: the handle is empty. It holds a table afterwards, unless this is refused.
         found(unsafe { raw::art_routes_new(&mut raw) })?;
-        Ok(RouteTable { raw, values: PhantomData })
+        Ok(RouteTable { raw, values: Chain::default() })
     }
 
     // A handle for one call that only looks. SAFETY of each use, and of those of the handle itself: it holds a table until
@@ -72,9 +74,12 @@ impl<V> RouteTable<V> {
         self.len() == 0
     }
 
-    /// Removes all routes, and drops their values.
+    /// Removes all routes, and drops their values. Keeps the memory of the table, and takes none.
     pub fn clear(&mut self) {
-        *self = Self::new();
+        // The table is whole before a value's own drop, which may panic.
+        let values = mem::take(&mut self.values);
+        unsafe { raw::art_routes_clear(&mut self.raw) }
+        drop(values);
     }
 
     /// Reserves memory for more routes, but for their values.
@@ -88,23 +93,22 @@ impl<V> RouteTable<V> {
     }
 
     /// Adds a route. Where there is one to the same network, its value is replaced and returned.
-    pub fn insert(&mut self, network: impl Into<Network>, value: V) -> Option<V> {
+    pub fn insert(&mut self, network: Network, value: V) -> Option<V> {
         granted(self.try_put(network, value).map_err(|(_, refusal)| refusal))
     }
 
     /// The same, where memory is found. Else the value comes back.
-    pub fn try_put(&mut self, network: impl Into<Network>, value: V) -> Result<Option<V>, (V, Refusal)> {
-        let network = network.into();
-        let ((octets, width), word, mut before) = (network.octets(), word_of(Box::new(value)), 0);
+    pub fn try_put(&mut self, network: Network, value: V) -> Result<Option<V>, (V, Refusal)> {
+        let ((octets, width), word, mut before) = (network.octets(), self.values.add(value), 0);
         let status = unsafe {
             raw::art_routes_insert(&mut self.raw, octets.as_ptr(), width, network.length(), word, &mut before)
         };
         match found(status) {
             // SAFETY: the table has the new word in its place.
-            Ok(true) => Ok(Some(*unsafe { box_of(before) })),
+            Ok(true) => Ok(Some(unsafe { self.values.take(before) })),
             Ok(false) => Ok(None),
             // SAFETY: the table has not changed.
-            Err(refusal) => Err((*unsafe { box_of(word) }, refusal)),
+            Err(refusal) => Err((unsafe { self.values.take(word) }, refusal)),
         }
     }
 
@@ -117,35 +121,34 @@ impl<V> RouteTable<V> {
     }
 
     /// The value of the route to this very network.
-    pub fn get(&self, network: impl Into<Network>) -> Option<&V> {
+    pub fn get(&self, network: Network) -> Option<&V> {
         // SAFETY: the table is borrowed as long.
-        self.word(network.into()).map(|word| unsafe { &*address(word) })
+        self.word(network).map(|word| unsafe { &*address(word) })
     }
 
     /// The same, to be changed.
-    pub fn get_mut(&mut self, network: impl Into<Network>) -> Option<&mut V> {
+    pub fn get_mut(&mut self, network: Network) -> Option<&mut V> {
         // SAFETY: the table is borrowed as long.
-        self.word(network.into()).map(|word| unsafe { &mut *address(word) })
+        self.word(network).map(|word| unsafe { &mut *address(word) })
     }
 
     /// Whether there is a route to this very network.
-    pub fn contains_key(&self, network: impl Into<Network>) -> bool {
-        self.word(network.into()).is_some()
+    pub fn contains_key(&self, network: Network) -> bool {
+        self.word(network).is_some()
     }
 
     /// Removes the route to this very network, and returns its value.
-    pub fn remove(&mut self, network: impl Into<Network>) -> Option<V> {
+    pub fn remove(&mut self, network: Network) -> Option<V> {
         granted(self.try_remove(network))
     }
 
     /// The same, where memory is found, which may be needed where there is such a route.
-    pub fn try_remove(&mut self, network: impl Into<Network>) -> Result<Option<V>, Refusal> {
-        let network = network.into();
+    pub fn try_remove(&mut self, network: Network) -> Result<Option<V>, Refusal> {
         let ((octets, width), mut word) = (network.octets(), 0);
         let status =
             unsafe { raw::art_routes_remove(&mut self.raw, octets.as_ptr(), width, network.length(), &mut word) };
         // SAFETY: the table does not have it any more.
-        Ok(found(status)?.then(|| *unsafe { box_of(word) }))
+        Ok(found(status)?.then(|| unsafe { self.values.take(word) }))
     }
 
     // Writes the lengths and the words of the routes around a network, the longest first. Returns how many.
@@ -174,43 +177,38 @@ impl<V> RouteTable<V> {
     }
 
     /// The longest route that contains an address, or covers a network.
-    pub fn get_lpm(&self, network: impl Into<Network>) -> Option<(Network, &V)> {
+    pub fn get_lpm(&self, network: Network) -> Option<(Network, &V)> {
         // SAFETY: the table is borrowed as long.
-        self.longest(network.into()).map(|(network, word)| (network, unsafe { &*address(word) }))
+        self.longest(network).map(|(network, word)| (network, unsafe { &*address(word) }))
     }
 
     /// The same, with a value that can be changed.
-    pub fn get_lpm_mut(&mut self, network: impl Into<Network>) -> Option<(Network, &mut V)> {
+    pub fn get_lpm_mut(&mut self, network: Network) -> Option<(Network, &mut V)> {
         // SAFETY: the table is borrowed as long.
-        self.longest(network.into()).map(|(network, word)| (network, unsafe { &mut *address(word) }))
+        self.longest(network).map(|(network, word)| (network, unsafe { &mut *address(word) }))
     }
 
     /// The network of the longest route that contains an address, or covers a network.
-    pub fn get_lpm_prefix(&self, network: impl Into<Network>) -> Option<Network> {
-        self.longest(network.into()).map(|(network, _)| network)
+    pub fn get_lpm_prefix(&self, network: Network) -> Option<Network> {
+        self.longest(network).map(|(network, _)| network)
     }
 
     /// The shortest route that contains an address, or covers a network.
-    pub fn get_spm(&self, network: impl Into<Network>) -> Option<(Network, &V)> {
+    pub fn get_spm(&self, network: Network) -> Option<(Network, &V)> {
         self.cover(network).next()
     }
 
     /// The routes that contain an address, or cover a network, from the shortest to the longest.
-    pub fn cover(&self, network: impl Into<Network>) -> Cover<'_, V> {
-        let mut cover = Cover {
-            network: network.into(),
-            lengths: [0; MOST_AROUND],
-            words: [0; MOST_AROUND],
-            left: 0,
-            values: PhantomData,
-        };
+    pub fn cover(&self, network: Network) -> Cover<'_, V> {
+        let mut cover =
+            Cover { network, lengths: [0; MOST_AROUND], words: [0; MOST_AROUND], left: 0, values: PhantomData };
         cover.left = self.around(cover.network, &mut cover.lengths, &mut cover.words);
         cover
     }
 
     /// The route to a network and those to its parts, in order.
-    pub fn children(&self, network: impl Into<Network>) -> Iter<'_, V> {
-        Iter { table: self, cursor: Cursor::within(network.into()) }
+    pub fn children(&self, network: Network) -> Iter<'_, V> {
+        Iter { table: self, cursor: Cursor::within(network) }
     }
 
     /// All routes, in order.
@@ -341,35 +339,10 @@ impl<'a, V> Iterator for Cover<'a, V> {
 impl<V> ExactSizeIterator for Cover<'_, V> {}
 impl<V> FusedIterator for Cover<'_, V> {}
 
-// Drops the values of the routes to come.
-struct DropsRest<'a, V>(&'a RouteTable<V>, &'a mut Cursor);
-
-impl<V> Drop for DropsRest<'_, V> {
-    fn drop(&mut self) {
-        while let Some((_, word)) = self.1.next(self.0) {
-            // Where a value's own drop panics, this one goes on with the others.
-            let rest = DropsRest(self.0, self.1);
-            // SAFETY: the table is being dropped, and a cursor gives each route once.
-            drop(unsafe { box_of::<V>(word) });
-            mem::forget(rest);
-        }
-    }
-}
-
-// Frees the library's table, whatever panics.
-struct Frees(RawMap);
-
-impl Drop for Frees {
-    fn drop(&mut self) {
-        // SAFETY: there is no call after this one.
-        unsafe { raw::art_routes_free(&mut self.0) }
-    }
-}
-
 impl<V> Drop for RouteTable<V> {
     fn drop(&mut self) {
-        let _frees = Frees(self.own());
-        drop(DropsRest(self, &mut Cursor::all()));
+        // SAFETY: there is no call after this one.
+        unsafe { raw::art_routes_free(&mut self.raw) }
     }
 }
 
@@ -407,19 +380,25 @@ impl<V: fmt::Debug> fmt::Debug for RouteTable<V> {
     }
 }
 
-impl<V, N: Into<Network>> Extend<(N, V)> for RouteTable<V> {
-    fn extend<I: IntoIterator<Item = (N, V)>>(&mut self, routes: I) {
+impl<V> Extend<(Network, V)> for RouteTable<V> {
+    fn extend<I: IntoIterator<Item = (Network, V)>>(&mut self, routes: I) {
         for (network, value) in routes {
             self.insert(network, value);
         }
     }
 }
 
-impl<V, N: Into<Network>> FromIterator<(N, V)> for RouteTable<V> {
-    fn from_iter<I: IntoIterator<Item = (N, V)>>(routes: I) -> Self {
+impl<V> FromIterator<(Network, V)> for RouteTable<V> {
+    fn from_iter<I: IntoIterator<Item = (Network, V)>>(routes: I) -> Self {
         let mut table = Self::new();
         table.extend(routes);
         table
+    }
+}
+
+impl<V, const N: usize> From<[(Network, V); N]> for RouteTable<V> {
+    fn from(routes: [(Network, V); N]) -> Self {
+        routes.into_iter().collect()
     }
 }
 

@@ -129,7 +129,7 @@ impl<K: Key> WordMap<K> {
         self.len() == 0
     }
 
-    /// Removes all entries. Keeps the memory.
+    /// Removes all entries. Keeps the memory, and takes none.
     pub fn clear(&mut self) {
         unsafe { K::clear(&mut self.raw) }
     }
@@ -304,35 +304,39 @@ impl<K: Key> WordMap<K> {
     /// Where memory is refused nothing moves, unless it is for a key of a [`ByteMap`]: the entries before it have then moved,
     /// and the others are where they were. Both maps [`reserve`](Self::reserve) memory for as many entries.
     pub fn append(&mut self, other: &mut Self) {
-        self.append_words(other, drop);
-    }
-
-    /// The same, and gives away each value that is replaced.
-    pub(crate) fn append_words(&mut self, other: &mut Self, mut replaced: impl FnMut(u64)) {
         if self.is_empty() {
             return mem::swap(self, other);
         }
+        self.append_words(other, |_, _| ());
+    }
+
+    /// The same, and tells each value that has moved, and the one that it replaces.
+    pub(crate) fn append_words(&mut self, other: &mut Self, mut moved: impl FnMut(u64, Option<u64>)) {
         // From here on nothing takes memory but for a key, and a removal takes none.
         self.reserve(other.len());
         other.reserve(other.len());
         while let Some((key, value)) = granted(other.find(Find::First)) {
             let before = granted(self.put(key.sought(), value));
             other.pop_first();
-            if let Some(before) = before {
-                replaced(before);
-            }
+            moved(value, before);
         }
     }
 
     /// Moves the entries from a key on into a map of their own, as [`from_ascending`](Self::from_ascending) makes it. Where
     /// memory is refused, nothing moves.
     pub fn split_off(&mut self, key: impl AsKey<K>) -> Self {
+        self.split_words(key).0
+    }
+
+    /// The same, and the values that have moved.
+    pub(crate) fn split_words(&mut self, key: impl AsKey<K>) -> (Self, Vec<u64>) {
         let cursor = Cursor::new(((key.as_key().to_owned(), true), Bound::Unbounded));
-        let split = granted(Self::loaded(&many_of(Range::new(self, cursor))));
+        let many = many_of(Range::new(self, cursor));
+        let split = granted(Self::loaded(&many));
         // The removals are then not refused, which would leave values in both maps.
         self.reserve(split.len());
         (0..split.len()).for_each(|_| drop(self.pop_last()));
-        split
+        (split, many.into_values())
     }
 
     /// Removes the entries that a closure does not keep. It may change their values. Where it panics, or memory is refused,

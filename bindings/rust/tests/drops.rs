@@ -82,6 +82,13 @@ fn a_drop_that_panics_leaves_the_others_to_be_dropped() {
     assert_eq!(drops.get(), 1);
     assert!(catch_unwind(AssertUnwindSafe(move || drop(map))).is_err());
     assert_eq!(drops.get(), 201);
+    let mut map = filled(&drops, 200);
+    drop(map.insert(70u64, Counted { drops: &drops, panics: true }));
+    assert!(catch_unwind(AssertUnwindSafe(|| map.clear())).is_err());
+    assert_eq!((drops.get(), map.len(), map.iter().count()), (402, 0, 0));
+    map.insert(5u64, Counted { drops: &drops, panics: false });
+    drop(map);
+    assert_eq!(drops.get(), 403);
 }
 
 #[test]

@@ -1,5 +1,5 @@
 //! Each allocation of the library is refused in turn, and all after it, while a call moves, makes or changes many entries: none
-//! is lost, none is twice, and each value is dropped once.
+//! is lost, none is twice, and each value is dropped once. `clear` and drops need none, of Rust's memory neither.
 #![cfg(all(target_os = "linux", target_env = "gnu"))]
 
 use std::alloc::{GlobalAlloc, Layout};
@@ -20,11 +20,14 @@ extern "C" {
 thread_local! {
     /// How many more allocations the library is granted.
     static LEFT: Cell<u64> = const { Cell::new(u64::MAX) };
+    /// How many allocations the library and Rust have asked for.
+    static ASKED: Cell<u64> = const { Cell::new(0) };
     /// How many values there are.
     static LIVE: Cell<usize> = const { Cell::new(0) };
 }
 
 fn refuses() -> bool {
+    ASKED.set(ASKED.get() + 1);
     let left = LEFT.get();
     LEFT.set(left.saturating_sub(u64::from(left < u64::MAX)));
     left == 0
@@ -59,6 +62,7 @@ struct Granted;
 // SAFETY: as of C.
 unsafe impl GlobalAlloc for Granted {
     unsafe fn alloc(&self, layout: Layout) -> *mut u8 {
+        ASKED.set(ASKED.get() + 1);
         __libc_memalign(layout.align(), layout.size())
     }
 
@@ -82,6 +86,14 @@ fn granted<T>(allocations: u64, call: impl FnOnce() -> T) -> Option<T> {
 fn each_refused(mut refused: impl FnMut(u64) -> bool) {
     let refusals = (0..).take_while(|&allocations| refused(allocations)).count();
     assert!(refusals > 1, "{refusals} refusals");
+}
+
+/// Makes a call which is refused each allocation, and asks for none.
+fn without_memory<T>(call: impl FnOnce() -> T) -> T {
+    let asked = ASKED.get();
+    let result = granted(0, call).expect("nothing is refused");
+    assert_eq!(ASKED.get(), asked);
+    result
 }
 
 /// A value that counts itself.
@@ -146,6 +158,7 @@ trait AnyMap<K>: Sized {
     fn extend(&mut self, entries: &[(K, u64)]);
     fn collected(entries: &[(K, u64)]) -> Self;
     fn copied(&self) -> Self;
+    fn clear(&mut self);
     /// How many values this has that count themselves.
     fn counted(&self) -> usize;
 }
@@ -193,6 +206,10 @@ macro_rules! any_map {
 
             fn copied(&self) -> Self {
                 self.clone()
+            }
+
+            fn clear(&mut self) {
+                self.clear()
             }
 
             fn counted(&self) -> usize {
@@ -325,9 +342,9 @@ fn extends<K: AnyKey, M: AnyMap<K>>() {
 fn collects<K: AnyKey, M: AnyMap<K>>() {
     let due = entries::<K>(0..300, 0);
     let ascending: Vec<_> = due.clone().into_iter().collect();
-    // A drop takes memory for a long key.
-    let (short, shorts) = (entries::<K>(0..6, 0), (0..6).rev().map(|number| (K::of(number), number)).collect());
-    for (given, due) in [(ascending, &due), (shorts, &short)] {
+    let few = entries::<K>(0..40, 0);
+    let descending = few.clone().into_iter().rev().collect();
+    for (given, due) in [(ascending, &due), (descending, &few)] {
         each_refused(|allocations| {
             let map = granted(allocations, || M::collected(&given));
             assert_eq!(LIVE.get(), map.as_ref().map_or(0, M::counted));
@@ -342,6 +359,24 @@ fn collects<K: AnyKey, M: AnyMap<K>>() {
         assert!(copy.as_ref().is_none_or(|copy| copy.entries() == due));
         copy.is_none()
     });
+}
+
+fn clears_and_drops<K: AnyKey, M: AnyMap<K>>() {
+    let due = entries::<K>(0..300, 0);
+    for make in [M::of, M::compact] {
+        let mut map = make(&due);
+        without_memory(|| map.clear());
+        assert_eq!((LIVE.get(), map.entries()), (0, BTreeMap::new()));
+        map.extend(&[(K::of(6), 6)]);
+        assert_eq!(map.entries(), entries(6..7, 0));
+        without_memory(|| drop(map));
+        assert_eq!(LIVE.get(), 0);
+        let mut map = make(&due);
+        let split = map.split_off(due.keys().nth(100).unwrap());
+        map.retain(|value| value % 3 == 0);
+        without_memory(|| drop((map, split)));
+        assert_eq!(LIVE.get(), 0);
+    }
 }
 
 macro_rules! tests {
@@ -364,10 +399,10 @@ macro_rules! tests {
     };
 }
 
-tests!(appends, splits_off, retains, extends, collects);
+tests!(appends, splits_off, retains, extends, collects, clears_and_drops);
 
 #[test]
-fn a_table_is_extended_and_copied() {
+fn a_table_is_extended_copied_and_cleared() {
     let route = |number: u8| {
         (Network::truncated([10, number % 7, number, 0], 8 + number % 17).unwrap(), Counted::new(number.into()))
     };
@@ -389,6 +424,10 @@ fn a_table_is_extended_and_copied() {
         assert!(copy.as_ref().is_none_or(|copy| shown(copy) == shown(&whole)));
         refused || copy.is_none()
     });
-    drop(whole);
+    without_memory(|| whole.clear());
+    assert_eq!((LIVE.get(), whole.len(), whole.iter().count()), (0, 0, 0));
+    whole.extend((0..9).map(route));
+    assert_eq!((LIVE.get(), shown(&whole)), (whole.len(), first(9)));
+    without_memory(|| drop(whole));
     assert_eq!(LIVE.get(), 0);
 }

@@ -5,6 +5,7 @@ use common::Random;
 use std::cell::Cell;
 use std::collections::BTreeMap;
 use std::net::{IpAddr, Ipv4Addr, Ipv6Addr};
+use std::panic::{catch_unwind, AssertUnwindSafe};
 use verified_art::{BadNetwork, Network, RouteTable};
 
 fn network(text: &str) -> Network {
@@ -72,10 +73,10 @@ fn a_table_does_what_a_scan_does() {
                 let mut around: Vec<_> =
                     model.iter().filter(|(it, _)| it.contains(address)).map(|(it, value)| (*it, value)).collect();
                 around.sort_by_key(|(it, _)| it.length());
-                assert_eq!(table.get_lpm(address), around.last().copied());
-                assert_eq!(table.get_lpm_prefix(address), around.last().map(|(it, _)| *it));
-                assert_eq!(table.get_spm(address), around.first().copied());
-                assert!(table.cover(address).eq(around));
+                assert_eq!(table.get_lpm(address.into()), around.last().copied());
+                assert_eq!(table.get_lpm_prefix(address.into()), around.last().map(|(it, _)| *it));
+                assert_eq!(table.get_spm(address.into()), around.first().copied());
+                assert!(table.cover(address.into()).eq(around));
             }
             11 => {
                 let mut around: Vec<_> =
@@ -130,36 +131,73 @@ fn networks_are_read_and_shown() {
 }
 
 #[test]
+fn networks_are_made_of_what_is_there() {
+    let mut table = RouteTable::new();
+    table.insert("10.0.0.0/8".parse().unwrap(), 8);
+    table.insert("10.1.0.0/16".try_into().unwrap(), 16);
+    table.insert(Ipv4Addr::new(10, 1, 2, 3).into(), 32);
+    assert_eq!(table.get_lpm("10.1.2.3".parse().unwrap()).unwrap().1, &32);
+    assert_eq!(table.get_lpm([10, 1, 2, 4].into()).unwrap().1, &16);
+    assert_eq!(table.get_lpm(IpAddr::from([10, 2, 0, 0]).into()), Some((network("10.0.0.0/8"), &8)));
+    assert_eq!(
+        table,
+        RouteTable::from([(network("10.1.2.3"), 32), (network("10.1.0.0/16"), 16), (network("10.0.0.0/8"), 8)])
+    );
+    for address in [Ipv6Addr::LOCALHOST.into(), [0, 0, 0, 0, 0, 0, 0, 1u16].into(), Ipv6Addr::LOCALHOST.octets().into()]
+    {
+        assert_eq!((network("::1"), table.get_lpm(address)), (address, None));
+    }
+    assert_eq!(Network::try_from("10.0.0.1/8"), Err(BadNetwork::BitsBehindLength));
+}
+
+#[test]
 fn the_families_never_match_each_other() {
     let mut table: RouteTable<u32> = [(network("0.0.0.0/0"), 4), (network("10.0.0.0/8"), 8)].into_iter().collect();
     let mapped = Ipv4Addr::new(10, 0, 0, 1).to_ipv6_mapped();
-    assert_eq!(table.get_lpm(mapped), None);
+    assert_eq!(table.get_lpm(mapped.into()), None);
     table.insert(network("::/0"), 6);
-    assert_eq!(table.get_lpm(mapped), Some((network("::/0"), &6)));
-    assert_eq!(table.get_lpm([10, 0, 0, 1]), Some((network("10.0.0.0/8"), &8)));
+    assert_eq!(table.get_lpm(mapped.into()), Some((network("::/0"), &6)));
+    assert_eq!(table.get_lpm([10, 0, 0, 1].into()), Some((network("10.0.0.0/8"), &8)));
     assert_eq!(table.children(network("0.0.0.0/0")).count(), 2);
-    *table.get_lpm_mut([11, 0, 0, 1]).unwrap().1 = 5;
+    *table.get_lpm_mut([11, 0, 0, 1].into()).unwrap().1 = 5;
     assert_eq!(format!("{table:?}"), "{0.0.0.0/0: 5, 10.0.0.0/8: 8, ::/0: 6}");
+}
+
+/// Counts its drops, and may panic in one.
+struct Counted<'a>(&'a Cell<u32>, bool);
+
+impl Drop for Counted<'_> {
+    fn drop(&mut self) {
+        self.0.set(self.0.get() + 1);
+        if self.1 {
+            panic!("a drop that panics");
+        }
+    }
+}
+
+#[test]
+fn a_drop_that_panics_leaves_a_table_without_routes() {
+    let drops = Cell::new(0);
+    let mut table: RouteTable<Counted<'_>> =
+        (0..100u8).map(|at| ([at, 0, 0, 0].into(), Counted(&drops, at == 70))).collect();
+    assert!(catch_unwind(AssertUnwindSafe(|| table.clear())).is_err());
+    assert_eq!((drops.get(), table.len(), table.iter().count()), (100, 0, 0));
+    table.insert([1, 0, 0, 0].into(), Counted(&drops, false));
+    drop(table);
+    assert_eq!(drops.get(), 101);
 }
 
 #[test]
 fn each_value_is_dropped_once() {
-    struct Counted<'a>(&'a Cell<u32>);
-
-    impl Drop for Counted<'_> {
-        fn drop(&mut self) {
-            self.0.set(self.0.get() + 1);
-        }
-    }
-
     let drops = Cell::new(0);
-    let mut table: RouteTable<Counted<'_>> = (0..100u8).map(|at| ([at, 0, 0, 0], Counted(&drops))).collect();
-    drop(table.insert([3, 0, 0, 0], Counted(&drops)));
-    drop(table.remove([4, 0, 0, 0]));
+    let mut table: RouteTable<Counted<'_>> =
+        (0..100u8).map(|at| ([at, 0, 0, 0].into(), Counted(&drops, false))).collect();
+    drop(table.insert([3, 0, 0, 0].into(), Counted(&drops, false)));
+    drop(table.remove([4, 0, 0, 0].into()));
     assert_eq!((drops.get(), table.len()), (2, 99));
     table.clear();
     assert_eq!((drops.get(), table.len()), (101, 0));
-    table.insert([5, 0, 0, 0], Counted(&drops));
+    table.insert([5, 0, 0, 0].into(), Counted(&drops, false));
     drop(table);
     assert_eq!(drops.get(), 102);
 }
