@@ -1,12 +1,15 @@
 """What all benches share: building, medians and the tables in documents."""
 
 import datetime
+import hashlib
 import os
 import pathlib
 import re
+import shutil
 import statistics
 import subprocess
 import sys
+import tempfile
 
 REPOSITORY = pathlib.Path(__file__).resolve().parent.parent
 RUNS = 5
@@ -27,6 +30,47 @@ def built(crate):
     return REPOSITORY / "crates" / crate / "out" / crate
 
 
+def sources_of(program):
+    """A sum of all that a program of bench/ is built from."""
+    folders = [REPOSITORY / "bench" / program, *REPOSITORY.glob("crates/*/src"), *REPOSITORY.glob("crates/*/specs")]
+    files = [REPOSITORY / "crates.txt", *sorted(it for folder in folders for it in folder.rglob("*") if it.is_file())]
+    sum_ = hashlib.sha256(subprocess.run(["rt", "version"], stdout=subprocess.PIPE, check=True).stdout)
+    for file in files:
+        sum_.update(str(file.relative_to(REPOSITORY)).encode() + file.read_bytes())
+    return sum_.hexdigest()
+
+
+def built_of_bench(program):
+    """A program of bench/, proved and built as a crate of a copy of the repository, and kept in bench/out."""
+    kept, mark = (REPOSITORY / "bench" / "out" / it for it in (program, f"{program}.sources"))
+    sources = sources_of(program)
+    if kept.is_file() and mark.is_file() and mark.read_text() == sources:
+        return kept
+    line = (REPOSITORY / "bench" / program / "crate_line.txt").read_text()
+    for library in line.partition(":")[2].split():
+        say(f"proving {library}, where that is not done")
+        if subprocess.run(["rt", "lib"], cwd=REPOSITORY / "crates" / library, stdout=subprocess.DEVNULL).returncode != 0:
+            fail(f"{library} is not proved")
+    say(f"proving and building {program}")
+    with tempfile.TemporaryDirectory() as place:
+        room = pathlib.Path(place)
+        for file in ("crates.txt", "HANDLES"):
+            shutil.copy2(REPOSITORY / file, room)
+        left_out = shutil.ignore_patterns("incremental", "mutants", "must-fail")
+        shutil.copytree(REPOSITORY / "crates", room / "crates", ignore=left_out)
+        subprocess.run(["git", "init", "-q", room], check=True)
+        subprocess.run([REPOSITORY / "scripts" / "lay_out_program", REPOSITORY / "bench" / program, room], check=True)
+        crate = room / "crates" / program
+        words = ["rt", "run", "--", *(crate / "args").read_text().splitlines()]
+        ran = subprocess.run(words, cwd=crate, stdin=subprocess.DEVNULL, capture_output=True, text=True)
+        if ran.returncode != 0 or not (crate / "out" / program).is_file():
+            fail(f"{program} could not be proved and built: {(ran.stdout + ran.stderr)[-600:]}")
+        kept.parent.mkdir(exist_ok=True)
+        shutil.copy2(crate / "out" / program, kept)
+    mark.write_text(sources)
+    return kept
+
+
 def table_of(rows):
     """Rows of cells as a table, the first row its head."""
     head, *others = rows
@@ -41,11 +85,11 @@ def rows_of(table):
     return [dict(zip(head, line)) for line in lines]
 
 
-def spread_of(cells):
+def spread_of(cells, runs=RUNS):
     """How far the runs of each cell lie apart, in a sentence."""
-    apart = sorted((max(runs) - min(runs)) / statistics.median(runs) for runs in cells)
+    apart = sorted((max(cell) - min(cell)) / statistics.median(cell) for cell in cells)
     return (
-        f"the greatest and the least of {RUNS} runs lie apart by {statistics.median(apart):.0%} of their median or less in"
+        f"the greatest and the least of {runs} runs lie apart by {statistics.median(apart):.0%} of their median or less in"
         f" half of the cells, by {apart[len(apart) * 9 // 10]:.0%} or less in nine of ten"
     )
 

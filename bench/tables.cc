@@ -1,22 +1,29 @@
-// Times route tables of the library beside a plain binary trie, in one process:
+// Times route tables of the library beside a binary trie and a multibit trie, in one process:
 //
-//     tables ipv4|ipv6 ROUTES FIRST
+//     tables SHAPE ROUTES FIRST
+//     tables --routes SHAPE ROUTES    writes the routes and no times, a line ADDRESS/LENGTH in hexadecimal for each
+//
+// SHAPE is ipv4 or ipv6 (half of the routes near others), bgp4 or bgp6 (the shape of the public table), nested4, nested6,
+// beside4 or beside6 (an attacker's tables, with routes around and beside ROUTES addresses).
 //
 // It makes each table in turn, beginning with that of the number FIRST, and times its calls. It writes a line for each table and
-// call: the nanoseconds of processor time for one route or address, and the bytes that malloc has given out for a route. It fails
-// where the two differ in what their calls return.
+// call: the nanoseconds of processor time for one route or address, of look-ups in the fastest of some passes, and the bytes
+// that malloc has given out for a route. It fails where two tables differ in what their calls return. Under valgrind's
+// callgrind, which then counts the instructions of each call, there is one pass: bench/instructions runs it so.
 #include "../bindings/c/art.h"
-#include <algorithm>
+#include "networks.h"
 #include <cstdio>
-#include <cstdlib>
-#include <cstring>
 #include <ctime>
 #include <functional>
 #include <malloc.h>
-#include <random>
-#include <string>
-#include <unordered_set>
-#include <vector>
+#if __has_include(<valgrind/callgrind.h>)
+#include <valgrind/callgrind.h>
+#else
+#define RUNNING_ON_VALGRIND 0
+#define CALLGRIND_START_INSTRUMENTATION
+#define CALLGRIND_STOP_INSTRUMENTATION
+#define CALLGRIND_DUMP_STATS_AT(name)
+#endif
 
 static void require(bool due, const char *what) {
     if (due) return;
@@ -24,269 +31,215 @@ static void require(bool due, const char *what) {
     std::exit(1);
 }
 
-struct Route {
-    uint8_t address[16];
-    uint8_t length;
-};
+// The library's table, with the calls of the others.
+class Library {
+    art_routes_map table{};
 
-static size_t width; // of all addresses, in bytes
-
-static bool bit(const uint8_t *address, unsigned at) { return address[at / 8] >> (7 - at % 8) & 1; }
-
-// ---- a binary trie: a node for each first bits of a network
-
-struct Node {
-    Node *child[2] = {nullptr, nullptr};
-    uint64_t value = 0;
-    bool is_route = false;
-};
-
-struct Trie {
-    Node *root = new Node;
-
-    static void free_all(Node *node) {
-        if (!node) return;
-        free_all(node->child[0]);
-        free_all(node->child[1]);
-        delete node;
-    }
+  public:
+    Library() { require(art_routes_new(&table) == ART_NONE, "no memory"); }
+    ~Library() { art_routes_free(&table); }
 
     bool insert(const Route &route, uint64_t value) {
-        Node *node = root;
-        for (unsigned at = 0; at < route.length; at++) {
-            Node *&child = node->child[bit(route.address, at)];
-            if (!child) child = new Node;
-            node = child;
-        }
-        bool fresh = !node->is_route;
-        node->is_route = true;
-        node->value = value;
-        return fresh;
+        uint64_t before;
+        uint32_t status = art_routes_insert(&table, route.address, width, route.length, value, &before);
+        require(status <= ART_SOME, "no memory");
+        return status == ART_NONE;
     }
 
-    // The value of the longest route, and one; 0 where there is none.
-    uint64_t match(const uint8_t *address) const {
-        uint64_t found = 0;
-        const Node *node = root;
-        for (unsigned at = 0; node; at++) {
-            if (node->is_route) found = node->value + 1;
-            if (at == 8 * width) break;
-            node = node->child[bit(address, at)];
-        }
-        return found;
+    Match match(const uint8_t *address) const {
+        Match match{false, 0, 0};
+        match.found = art_routes_longest_match(&table, address, width, &match.length, &match.value) == ART_SOME;
+        return match;
     }
 
     uint64_t remove(const Route &route) {
-        Node **way[129] = {&root};
-        for (unsigned at = 0; at < route.length && *way[at]; at++) {
-            way[at + 1] = &(*way[at])->child[bit(route.address, at)];
-            if (!*way[at + 1]) return 0;
+        uint64_t value;
+        return art_routes_remove(&table, route.address, width, route.length, &value) == ART_SOME ? value + 1 : 0;
+    }
+
+    template <class Sum> void match_many(const std::vector<uint8_t> &addresses, Sum sum) const {
+        uint64_t values[256];
+        uint8_t lengths[256];
+        for (size_t at = 0, count; at < addresses.size(); at += count * width) {
+            require(art_routes_longest_match_many(&table, &addresses[at], addresses.size() - at, width, lengths, 256, values, 256, &count) ==
+                        ART_NONE,
+                    "no table");
+            for (size_t i = 0; i < count; i++) sum(Match{lengths[i] != ART_NO_ROUTE, lengths[i], values[i]});
         }
-        Node *node = *way[route.length];
-        if (!node->is_route) return 0;
-        uint64_t found = node->value + 1;
-        node->is_route = false;
-        for (unsigned at = route.length; at > 0; at--) {
-            node = *way[at];
-            if (node->is_route || node->child[0] || node->child[1]) break;
-            delete node;
-            *way[at] = nullptr;
-        }
-        return found;
     }
 };
 
 // ---- what is timed
 
-struct Calls {
-    const char *name;
-    void *(*make)();
-    void (*free)(void *);
-    uint64_t (*insert)(void *, const std::vector<Route> &);
-    uint64_t (*match)(void *, const std::vector<uint8_t> &);
-    uint64_t (*many)(void *, const std::vector<uint8_t> &);
-    uint64_t (*remove)(void *, const std::vector<Route> &);
+// What there is to do. A call that has nothing to do is not timed.
+struct Work {
+    std::vector<Route> routes, again;
+    std::vector<uint8_t> hits, misses, mixed;
 };
 
-static Calls library() {
-    Calls calls{};
-    calls.name = "`libart`";
-    calls.make = []() -> void * {
-        auto table = new art_routes_map{};
-        require(art_routes_new(table) == ART_NONE, "no memory");
-        return table;
-    };
-    calls.free = [](void *table) {
-        art_routes_free(static_cast<art_routes_map *>(table));
-        delete static_cast<art_routes_map *>(table);
-    };
-    calls.insert = [](void *table, const std::vector<Route> &routes) {
-        uint64_t fresh = 0, before;
-        for (size_t i = 0; i < routes.size(); i++) {
-            uint32_t status = art_routes_insert(static_cast<art_routes_map *>(table), routes[i].address, width, routes[i].length, i, &before);
-            require(status <= ART_SOME, "no memory");
-            fresh += status == ART_NONE;
-        }
-        return fresh;
-    };
-    calls.match = [](void *table, const std::vector<uint8_t> &addresses) {
-        uint64_t sum = 0, value;
-        uint8_t length;
-        for (size_t at = 0; at < addresses.size(); at += width)
-            if (art_routes_longest_match(static_cast<art_routes_map *>(table), &addresses[at], width, &length, &value) == ART_SOME) sum += value + 1;
-        return sum;
-    };
-    calls.many = [](void *table, const std::vector<uint8_t> &addresses) {
-        uint64_t sum = 0, values[256];
-        uint8_t lengths[256];
-        for (size_t at = 0, count; at < addresses.size(); at += count * width) {
-            require(art_routes_longest_match_many(static_cast<art_routes_map *>(table), &addresses[at], addresses.size() - at, width, lengths, 256,
-                                                  values, 256, &count) == ART_NONE, "no table");
-            for (size_t i = 0; i < count; i++)
-                if (lengths[i] != ART_NO_ROUTE) sum += values[i] + 1;
-        }
-        return sum;
-    };
-    calls.remove = [](void *table, const std::vector<Route> &routes) {
-        uint64_t sum = 0, value;
-        for (const Route &route : routes)
-            if (art_routes_remove(static_cast<art_routes_map *>(table), route.address, width, route.length, &value) == ART_SOME) sum += value + 1;
-        return sum;
-    };
-    return calls;
-}
-
-static Calls trie() {
-    Calls calls{};
-    calls.name = "binary trie";
-    calls.make = []() -> void * { return new Trie; };
-    calls.free = [](void *table) {
-        Trie::free_all(static_cast<Trie *>(table)->root);
-        delete static_cast<Trie *>(table);
-    };
-    calls.insert = [](void *table, const std::vector<Route> &routes) {
-        uint64_t fresh = 0;
-        for (size_t i = 0; i < routes.size(); i++) fresh += static_cast<Trie *>(table)->insert(routes[i], i);
-        return fresh;
-    };
-    calls.match = [](void *table, const std::vector<uint8_t> &addresses) {
-        uint64_t sum = 0;
-        for (size_t at = 0; at < addresses.size(); at += width) sum += static_cast<Trie *>(table)->match(&addresses[at]);
-        return sum;
-    };
-    calls.remove = [](void *table, const std::vector<Route> &routes) {
-        uint64_t sum = 0;
-        for (const Route &route : routes) sum += static_cast<Trie *>(table)->remove(route);
-        return sum;
-    };
-    return calls;
-}
-
-// ---- the routes
-
-// How many of a hundred routes have each length, about as in the tables of routers.
-struct Share {
-    unsigned length, percent;
-};
-static const std::vector<Share> SHARES[2] = {
-    {{24, 60}, {23, 10}, {22, 12}, {21, 5}, {20, 5}, {19, 3}, {18, 2}, {17, 1}, {16, 2}},
-    {{48, 46}, {32, 14}, {44, 10}, {40, 9}, {36, 6}, {47, 3}, {46, 4}, {29, 3}, {33, 2}, {34, 2}, {64, 1}},
-};
-
-static void random_address(std::mt19937_64 &rng, uint8_t *address) {
-    for (size_t at = 0; at < width; at++) address[at] = static_cast<uint8_t>(rng());
-    // Of IPv4 below 224.0.0.0, of IPv6 in 2000::/3.
-    if (width == 4) {
-        address[0] = static_cast<uint8_t>(1 + address[0] % 223);
-    } else {
-        address[0] = static_cast<uint8_t>(0x20 | (address[0] & 0x1F));
-    }
-}
-
-static std::vector<Route> random_routes(std::mt19937_64 &rng, size_t count) {
-    std::vector<Route> routes;
-    std::unordered_set<std::string> known;
-    while (routes.size() < count) {
-        Route route{};
-        if (!routes.empty() && rng() % 2 == 0) {
-            std::memcpy(route.address, routes[rng() % routes.size()].address, width);
-            for (size_t at = 2; at < width; at++) route.address[at] ^= static_cast<uint8_t>(rng() & rng());
-        } else {
-            random_address(rng, route.address);
-        }
-        unsigned pick = rng() % 100;
-        for (const Share &share : SHARES[width == 16]) {
-            route.length = static_cast<uint8_t>(share.length);
-            if (pick < share.percent) break;
-            pick -= share.percent;
-        }
-        for (unsigned at = route.length; at < 8 * width; at++) route.address[at / 8] &= static_cast<uint8_t>(~(0x80 >> at % 8));
-        if (known.insert(std::string(route.address, route.address + width) + static_cast<char>(route.length)).second) routes.push_back(route);
-    }
-    return routes;
-}
-
-static std::vector<uint8_t> inside(std::mt19937_64 &rng, const std::vector<Route> &routes, size_t count) {
-    std::vector<uint8_t> addresses;
-    for (size_t i = 0; i < count; i++) {
-        const Route &route = routes[rng() % routes.size()];
-        for (unsigned at = 0; at < width; at++) {
-            unsigned given = route.length > 8 * at ? std::min(8u, route.length - 8 * at) : 0;
-            addresses.push_back(static_cast<uint8_t>(route.address[at] | (rng() & 0xFF & (0xFFu >> given))));
-        }
-    }
-    return addresses;
-}
-
-static std::vector<uint8_t> outside(std::mt19937_64 &rng, const std::vector<Route> &routes, size_t count) {
-    Trie trie;
-    trie.insert(routes[0], 0);
-    for (const Route &route : routes) trie.insert(route, 0);
-    std::vector<uint8_t> addresses;
-    while (addresses.size() < count * width) {
-        uint8_t address[16];
-        random_address(rng, address);
-        if (trie.match(address) == 0) addresses.insert(addresses.end(), address, address + width);
-    }
-    Trie::free_all(trie.root);
-    return addresses;
-}
+constexpr size_t LOOK_UPS_OF_AN_UPDATE = 4;
 
 static double nanoseconds() {
     timespec now;
     clock_gettime(CLOCK_PROCESS_CPUTIME_ID, &now);
-    return now.tv_sec * 1e9 + now.tv_nsec;
+    return static_cast<double>(now.tv_sec) * 1e9 + static_cast<double>(now.tv_nsec);
+}
+
+// Large blocks are not in the first number.
+static double held() {
+    struct mallinfo2 info = mallinfo2();
+    return static_cast<double>(info.uordblks) + static_cast<double>(info.hblkhd);
+}
+
+class Timer {
+    const char *name;
+    std::vector<uint64_t> results;
+
+  public:
+    explicit Timer(const char *table) : name(table) {}
+
+    // The fastest of so many passes, each of which does so many things and returns the same.
+    uint64_t time(const char *call, size_t count, size_t passes, const std::function<uint64_t()> &pass) {
+        double least = 0;
+        uint64_t result = 0;
+        for (size_t turn = 0; turn < passes; turn++) {
+            double start = nanoseconds();
+            CALLGRIND_START_INSTRUMENTATION;
+            uint64_t now = pass();
+            CALLGRIND_STOP_INSTRUMENTATION;
+            double taken = nanoseconds() - start;
+            require(turn == 0 || now == result, "two passes differ");
+            least = turn == 0 ? taken : std::min(least, taken);
+            result = now;
+        }
+        std::string what = std::string(name) + "\t" + call + "\t" + std::to_string(count);
+        CALLGRIND_DUMP_STATS_AT(what.c_str());
+        write(call, least / static_cast<double>(count));
+        return result;
+    }
+
+    void keep(uint64_t result) { results.push_back(result); }
+    void write(const char *call, double value) const { std::printf("%s\t%s\t%f\n", name, call, value); }
+    const std::vector<uint64_t> &all() const { return results; }
+};
+
+static void add(uint64_t &sum, const Match &match) {
+    if (match.found) sum += match.value + 1 + match.length * UINT64_C(1000003);
+}
+
+template <class Table> static uint64_t sum_of(const Table &table, const std::vector<uint8_t> &addresses) {
+    uint64_t sum = 0;
+    for (size_t at = 0; at < addresses.size(); at += width) add(sum, table.match(&addresses[at]));
+    return sum;
+}
+
+// Withdraws and announces a tenth of the routes, and looks addresses up behind each of both.
+template <class Table> static uint64_t update(Table &table, const Work &work, size_t count) {
+    uint64_t sum = 0;
+    size_t at = 0;
+    auto look_up = [&] {
+        for (size_t i = 0; i < LOOK_UPS_OF_AN_UPDATE; i++, at = (at + width) % work.mixed.size()) add(sum, table.match(&work.mixed[at]));
+    };
+    for (size_t i = 0; i < count; i++) {
+        sum += table.remove(work.again[i]);
+        look_up();
+        sum += table.insert(work.again[i], i + 7);
+        look_up();
+    }
+    return sum;
+}
+
+template <class Table> static std::vector<uint64_t> measure(const char *name, const Work &work) {
+    Timer timer(name);
+    size_t passes = RUNNING_ON_VALGRIND ? 1 : 5, size = work.routes.size();
+    double before = held();
+    auto made = new Table;
+    Table &table = *made;
+    timer.keep(timer.time("insert", size, 1, [&] {
+        uint64_t fresh = 0;
+        for (size_t i = 0; i < size; i++) fresh += table.insert(work.routes[i], i);
+        return fresh;
+    }));
+    timer.write("bytes", (held() - before) / static_cast<double>(size));
+    auto look_up = [&](const char *call, const std::vector<uint8_t> &addresses) {
+        if (addresses.empty()) return;
+        timer.keep(timer.time(call, addresses.size() / width, passes, [&] { return sum_of(table, addresses); }));
+    };
+    look_up("match", work.hits);
+    look_up("miss", work.misses);
+    look_up("mixed", work.mixed);
+    if constexpr (std::is_same_v<Table, Library>) {
+        const auto &addresses = work.mixed.empty() ? work.hits.empty() ? work.misses : work.hits : work.mixed;
+        uint64_t many = timer.time("many", addresses.size() / width, passes, [&] {
+            uint64_t sum = 0;
+            table.match_many(addresses, [&](const Match &match) { add(sum, match); });
+            return sum;
+        });
+        require(many == sum_of(table, addresses), "a batch finds other routes");
+    }
+    if (!work.mixed.empty() && size >= 10) {
+        size_t count = size / 10;
+        timer.keep(timer.time("update", 2 * count, 1, [&] { return update(table, work, count); }));
+    }
+    timer.keep(timer.time("remove", size, 1, [&] {
+        uint64_t sum = 0;
+        for (const Route &route : work.again) sum += table.remove(route);
+        return sum;
+    }));
+    delete made;
+    return timer.all();
+}
+
+static Work work_of(const std::string &shape, size_t size) {
+    bool is_counted = RUNNING_ON_VALGRIND;
+    size_t least = is_counted ? 10000 : 100000;
+    Random rng(size);
+    Work work;
+    std::string kind = shape.substr(0, shape.size() - 1);
+    if (kind == "ipv" || kind == "bgp") {
+        work.routes = kind == "ipv" ? random_routes(rng, size) : public_routes(rng, size);
+        size_t count = is_counted ? least : kind == "ipv" ? size : std::max(size, least);
+        work.hits = inside(rng, work.routes, count);
+        work.misses = outside(rng, work.routes, count, kind == "bgp" && is_ipv6());
+        work.mixed = mixed(rng, work.hits, work.misses, count);
+    } else {
+        require(kind == "nested" || kind == "beside", "no such shape");
+        Attack attack = kind == "nested" ? nested_attack(rng, size, least) : beside_attack(rng, size, least);
+        work.routes = attack.routes;
+        work.hits = attack.hits;
+        work.misses = attack.misses;
+    }
+    work.again = work.routes;
+    std::shuffle(work.again.begin(), work.again.end(), rng);
+    return work;
+}
+
+static void print_routes(const std::vector<Route> &routes) {
+    for (const Route &route : routes) {
+        for (size_t at = 0; at < width; at++) std::printf("%02x", route.address[at]);
+        std::printf("/%u\n", route.length);
+    }
 }
 
 int main(int count, char **words) {
-    require(count == 4 && (!std::strcmp(words[1], "ipv4") || !std::strcmp(words[1], "ipv6")), "usage: tables ipv4|ipv6 ROUTES FIRST");
-    width = std::strcmp(words[1], "ipv4") ? 16 : 4;
-    size_t size = std::strtoul(words[2], nullptr, 10), first = std::strtoul(words[3], nullptr, 10);
-    std::mt19937_64 rng(size);
-    std::vector<Route> routes = random_routes(rng, size);
-    std::vector<uint8_t> hits = inside(rng, routes, size), misses = outside(rng, routes, size);
-    std::vector<Route> again = routes;
-    std::shuffle(again.begin(), again.end(), rng);
-    const Calls all[] = {library(), trie()};
-    uint64_t results[2][4] = {};
-    for (size_t turn = 0; turn < 2; turn++) {
-        size_t which = (first + turn) % 2;
-        const Calls &calls = all[which];
-        size_t before = mallinfo2().uordblks;
-        void *table = calls.make();
-        auto timed = [&](const char *call, const std::function<uint64_t()> &body) {
-            double start = nanoseconds();
-            uint64_t result = body();
-            std::printf("%s\t%s\t%f\n", calls.name, call, (nanoseconds() - start) / static_cast<double>(size));
-            return result;
-        };
-        results[which][0] = timed("insert", [&] { return calls.insert(table, routes); });
-        std::printf("%s\tbytes\t%f\n", calls.name, static_cast<double>(mallinfo2().uordblks - before) / static_cast<double>(size));
-        results[which][1] = timed("match", [&] { return calls.match(table, hits); });
-        results[which][2] = timed("miss", [&] { return calls.match(table, misses); });
-        if (calls.many) require(timed("many", [&] { return calls.many(table, hits); }) == results[which][1], "a batch finds other routes");
-        results[which][3] = timed("remove", [&] { return calls.remove(table, again); });
-        calls.free(table);
+    bool only_routes = count > 1 && !std::strcmp(words[1], "--routes");
+    require(count == 4, "usage: tables SHAPE ROUTES FIRST, or tables --routes SHAPE ROUTES");
+    std::string shape = words[only_routes ? 2 : 1];
+    size_t size = std::strtoul(words[only_routes ? 3 : 2], nullptr, 10), first = std::strtoul(words[3], nullptr, 10);
+    require(!shape.empty() && (shape.back() == '4' || shape.back() == '6') && size, "no such shape, or no routes");
+    width = shape.back() == '4' ? 4 : 16;
+    Work work = work_of(shape, size);
+    if (only_routes) {
+        print_routes(work.routes);
+        return 0;
     }
-    require(std::equal(results[0], results[0] + 4, results[1]) && results[0][2] == 0, "two tables differ");
+    std::vector<uint64_t> results[3];
+    for (size_t turn = 0; turn < 3; turn++) {
+        size_t which = (first + turn) % 3;
+        if (which == 0) results[which] = measure<Library>("`libart`", work);
+        if (which == 1) results[which] = measure<BinaryTrie>("binary trie", work);
+        if (which == 2) results[which] = measure<MultibitTrie>("multibit trie", work);
+    }
+    require(results[0] == results[1] && results[0] == results[2], "two tables differ");
+    require(results[0][0] == work.routes.size(), "a route is inserted twice");
 }

@@ -1,15 +1,18 @@
-"""Times a route table in Python: `tables_in_python.py RouteTable|Radix ipv4|ipv6 ROUTES`. It writes a line for each call: the
-nanoseconds of processor time for one route or address, and of many routes the bytes for one."""
+"""Times a route table in Python: `tables_in_python.py RouteTable|Radix ipv4|ipv6|bgp4|bgp6 ROUTES`. It writes a line for each
+call: the nanoseconds of processor time for one route or address, and of many routes the bytes for one. The routes of the public
+table's shape are those that the program `tables` prints."""
 
 import gc
 import random
 import re
 import socket
+import subprocess
 import sys
 import time
 from pathlib import Path
 
-BITS = {"ipv4": 32, "ipv6": 128}
+BITS = {"ipv4": 32, "ipv6": 128, "bgp4": 32, "bgp6": 128}
+PROGRAM = Path(__file__).resolve().parent / "out" / "tables"
 FAMILIES = {32: socket.AF_INET, 128: socket.AF_INET6}
 # How many routes take so many pages that these say what one takes.
 LEAST_IN_PAGES = 10_000
@@ -36,6 +39,11 @@ def some_routes(rng, bits, count):
         length = rng.choices(lengths, weights)[0]
         routes[some_address(rng, bits) >> bits - length << bits - length, length] = None
     return list(routes)
+
+
+def public_routes(shape, count):
+    printed = subprocess.run([PROGRAM, "--routes", shape, str(count)], stdout=subprocess.PIPE, text=True, check=True).stdout
+    return [(int(address, 16), int(length)) for address, length in (line.split("/") for line in printed.splitlines())]
 
 
 def some_misses(rng, bits, routes, count):
@@ -103,7 +111,7 @@ def of_radix():
 
 def main(which, shape, size):
     rng, bits, size = random.Random(int(size)), BITS[shape], int(size)
-    routes = some_routes(rng, bits, size)
+    routes = some_routes(rng, bits, size) if shape.startswith("ipv") else public_routes(shape, size)
     texts = [f"{text_of(address, bits)}/{length}" for address, length in routes]
     inside = [address | rng.getrandbits(bits - length) for address, length in rng.choices(routes, k=size)]
     hits = [text_of(it, bits) for it in inside]

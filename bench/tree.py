@@ -12,7 +12,7 @@ import pathlib
 import re
 import subprocess
 
-from shared import built, fail, table_of
+from shared import built_of_bench, fail, table_of
 
 SHAPES = {"dense": "dense numbers", "random": "random numbers", "words": "words", "addresses": "addresses"}
 OURS, COMPACTED, ORDERED, COLLECTED, THEIRS = MAPS = [
@@ -35,7 +35,7 @@ TARGETS = [
 
 
 def build():
-    return built("bench_tree")
+    return built_of_bench("bench_tree")
 
 
 def is_due(call, found, calls):
