@@ -8,6 +8,11 @@ from explaining.rust import Item, end_of_group, in_braces, split_list
 from explaining.terms import SYNTAX, Reader, parsed
 
 OF_AN_IMPL = re.compile(r"⟦<(.+?) as ([^⟧]+?)>⟧")
+# The traits of std by which an iterator is read, and the members that say what it yields.
+ITERATORS = ("Iterator", "DoubleEndedIterator")
+YIELDS = ("Item", "next_gives", "remaining", "next_back_gives")
+# The type of a member of a trait that is no function and no law: `ℕ`, `NodeType`.
+OF_CONSTANTS = re.compile(r"\s*[\w.]+\s*")
 # What every value behind a reference, and every type, has for contracts.
 OF_BORROWS = {"now", "old", "new", "entry", "exit", "ghost_name", "row", "Denot", "coded"}
 
@@ -63,13 +68,16 @@ class Node:
 
 @dataclass
 class Closure:
-    """All that a contract rests on. `accounts` has for each word of a clause what it is."""
+    """All that a contract rests on. `values` has what each type gives for a constant of a trait, by the constant."""
 
     nodes: list = field(default_factory=list)
     kit: set = field(default_factory=set)
     rows: dict = field(default_factory=dict)
     members: set = field(default_factory=set)
+    # The bounds of which a clause names all members at once.
+    bounds: set = field(default_factory=set)
     unknown: set = field(default_factory=set)
+    values: dict = field(default_factory=dict)
 
 
 class Explorer:
@@ -79,7 +87,7 @@ class Explorer:
         self.repository = repository
         self.closure = Closure()
         self._seen, self._words = set(), {}
-        self._given_types = {}
+        self._given_types, self._is_of_impl = {}, False
 
     # ---- where the words are
 
@@ -88,6 +96,7 @@ class Explorer:
         item = call.item
         scope = Scope(item.file, item.owner, item)
         self._given_types = call.given_types
+        self._is_of_impl = bool(item.owner and item.owner.kind == "impl" and item.owner.of_trait)
         if call.alias:
             self._visit(Node("type", call.alias))
         self._signature(item, scope, call.alias is None)
@@ -100,6 +109,7 @@ class Explorer:
                 self._clause(clause.text, inherited, arguments_in(function))
         for member in given:
             self._visit(Node("given", member, member.owner))
+        self._yields(item.result, scope)
         self._laws(scope)
         self._private_fields()
         return self.closure
@@ -111,6 +121,16 @@ class Explorer:
             for member in trait.items if trait else ():
                 if member.kind == "ghost" and is_law(member):
                     self._visit(Node("ghost", member, trait))
+
+    def _yields(self, result, scope):
+        """What the iterator yields that a call returns."""
+        for name in re.findall(r"(?<![\w'])([A-Z]\w*)", result):
+            type_ = self.repository.resolved(self.repository.named(scope.file, name))
+            for impl in self.repository.crate_of(type_.file).impls if type_ else ():
+                named = self.repository.named(impl.file, head_of(impl.target))
+                if head_of(impl.of_trait) in ITERATORS and self.repository.resolved(named) is type_:
+                    for member in filter(None, (impl.member(it, ("type", "ghost")) for it in YIELDS)):
+                        self._visit(Node("given", member, impl))
 
     def words(self, definitions):
         for definition in definitions:
@@ -290,6 +310,8 @@ class Explorer:
             trait = self.repository.named(scope.file, head_of(bound))
             if trait is None:
                 std = std or head_of(bound)
+            elif self._all_of_bound(trait, members[0]):
+                return
             elif self._of_trait(trait, members, word, scope):
                 self._of_given_type(trait, members[0], word)
                 return
@@ -297,6 +319,17 @@ class Explorer:
             self.closure.kit.add(("std", f"{std}.{members[0]}"))
         else:
             self.closure.unknown.add((f"{word}." + ".".join(members), scope.file.file.name))
+
+    def _all_of_bound(self, trait, name):
+        """All ghost members of a bound, as `K.KeyBytes` names them: of this trait or of one above it."""
+        for above in with_supers(self.repository, trait):
+            if above.name == name:
+                self.closure.bounds.add(name)
+                for member in above.items:
+                    if member.kind == "ghost" and not is_law(member):
+                        self._visit(Node("ghost", member, above))
+                return True
+        return False
 
     def _of_given_type(self, trait, member, word):
         """The member as the type has it that an alias gives for a parameter."""
@@ -313,6 +346,7 @@ class Explorer:
         found = trait.member(members[0], ("ghost", "const"))
         if found:
             self._visit(Node("ghost", found, trait))
+            self._values(found, trait, word)
             return True
         type_ = trait.member(members[0], ("type",))
         if type_:
@@ -330,6 +364,18 @@ class Explorer:
                 self.closure.kit.add(("std", f"{head_of(bound)}.{members[0]}"))
                 return True
         return False
+
+    def _values(self, member, trait, word):
+        """What each type of the trait's crate gives for a member that is a constant, where no type is known."""
+        known = word in self._given_types or (word == "Self" and self._is_of_impl) or id(member) in self.closure.values
+        if known or not member.braces or not OF_CONSTANTS.fullmatch(member.braces[0]):
+            return
+        given = self.closure.values[id(member)] = []
+        for impl in self.repository.crate_of(trait.file).impls:
+            found = impl.member(member.name, ("ghost",)) if head_of(impl.of_trait) == trait.name else None
+            if found:
+                given.append((impl, found))
+                self._braces(found, Scope(impl.file, impl))
 
     def _of_type(self, type_, members, scope):
         """A ghost member that an impl gives a type."""
@@ -405,6 +451,9 @@ class Explorer:
         elif item.kind == "enum":
             self._types(item.text, scope)
         else:
+            impl, owned = self.repository.ownership_of(item)
+            for member in owned:
+                self._braces(member, Scope(item.file, impl))
             for name, type_, ghost in fields_of(item):
                 if ghost:
                     for text in in_braces(type_):
@@ -461,7 +510,7 @@ class Explorer:
 
 # What std's traits give a trait of the repository that is bound by them.
 MEMBERS_OF_STD = {
-    "Ord": {"cmp"}, "PartialOrd": {"partial_cmp"}, "PartialEq": {"eq"}, "Eq": {"eq"}, "Hash": {"hash_input"},
+    "Ord": {"cmp", "partial_cmp", "eq"}, "PartialOrd": {"partial_cmp"}, "PartialEq": {"eq"}, "Eq": {"eq"}, "Hash": {"hash_input"},
     "Clone": {"is_clone", "is_infallible"},
 }
 

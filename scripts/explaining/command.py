@@ -54,7 +54,7 @@ def run(repository, words, usage):
 
 def libraries(repository):
     """The crates that are no tests."""
-    return [it for it in repository.crates if not it.endswith("_tests") and it not in ("art_strangers", "bench_tree")]
+    return [it for it in repository.crates if not it.endswith("_tests") and it != "art_strangers"]
 
 
 def known_crate(repository, name):

@@ -176,6 +176,10 @@ class Page:
             lines.extend(source_lines(model, model.body[0]))
             lines.extend(f"    {line}" for it in members for line in source_lines(it))
             block.notes.extend(self._unread(model, members))
+        elif item.kind == "struct":
+            impl, owned = self.repository.ownership_of(item)
+            lines.extend(source_lines(impl, impl.body[0]) if owned else [])
+            lines.extend(f"    {line}" for it in owned for line in source_lines(it))
         return block
 
     def _without_attributes(self, item):
@@ -216,6 +220,8 @@ class Page:
             else:
                 lines.extend([*first_paragraph(owner.docs), *source_lines(owner, owner.body[0])])
                 lines.extend(f"    {it}" for it in source_lines(item))
+            for impl, given in self.closure.values.get(id(item), ()):
+                lines.extend(f"    {it}" for it in [f"// of {' '.join(impl.target.split())}:", *source_lines(given)])
             title = f"{owner.name}.{item.name}"
             if node.kind == "given":
                 title = f"{item.name}, as {' '.join(owner.target.split())} has it"

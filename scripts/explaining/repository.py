@@ -190,6 +190,13 @@ class Repository:
                 return impl if impl.member("Value") else None
         return None
 
+    def ownership_of(self, item):
+        """What a value of a struct owns or shares beside its fields, as its `impl Model` has it."""
+        for impl in item.file.items:
+            if impl.kind == "impl" and head_of(impl.of_trait) == "Model" and head_of(impl.target) == item.name:
+                return impl, [it for name in ("also_owns", "also_shares") if (it := impl.member(name))]
+        return None, []
+
     def impls_of(self, trait, type_, crates):
         """The impls of a trait for a type with this head, in these crates."""
         for crate in crates:

@@ -5,10 +5,10 @@ from dataclasses import dataclass, field
 from explaining.terms import Reader, parsed
 
 IMPORT = re.compile(r"^[ \t]*(?:ghost )?use ([\w.]+?)(?:\.\{([^}]*)\})?(?: as (\w+))?[ \t]*;?[ \t]*$", re.MULTILINE)
-HEAD = re.compile(r"(?:abbrev )?(?:pub )?(record |data )?([^\s:({]+)")
-CLOSERS = ("}", ")", "})")
-DEFINES = re.compile(r"(abbrev )?pub (?!mod\b|use\b)")
-PRIVATE = re.compile(r"(?:abbrev )?[^\s:({=]+ :")
+HEAD = re.compile(r"(?:abbrev |unfoldable )?(?:pub )?(record |data )?([^\s:({]+)")
+CLOSERS = ("}", ")", "})", "]", "])")
+DEFINES = re.compile(r"((?:abbrev|unfoldable) )?pub (?!mod\b|use\b)")
+PRIVATE = re.compile(r"(?:abbrev |unfoldable )?[^\s:({=]+ :")
 
 
 @dataclass(frozen=True)
@@ -93,9 +93,9 @@ class Module:
         return at
 
     def _definition_end(self, start, end, name):
-        """The same, with the clauses of the name behind it."""
+        """The same, with the clauses of the name behind it, and the line of what they unfold."""
         at = self._block_end(start, end)
-        while at < end and re.match(rf"{re.escape(name)}(?: |$)", self.lines[at].strip()):
+        while at < end and re.match(rf"(?:unfolding|{re.escape(name)})(?: |$)", self.lines[at].strip()):
             at = self._block_end(at, end)
         return at
 
@@ -145,7 +145,7 @@ class Module:
         kind, name = HEAD.match(line).groups()
         last = self._definition_end(at, end, name)
         # What is no abbreviation is a lemma: its text is a proof, which nobody has to read.
-        kind = kind or ("word" if line.startswith("abbrev ") or group else "lemma")
+        kind = kind or ("word" if line.startswith(("abbrev ", "unfoldable ")) or group else "lemma")
         found = Definition(self, name, kind.strip(), self._comment_start(at), last, headers, group, (at, last))
         self.definitions[name] = found
         if found.kind == "data":
