@@ -9,7 +9,6 @@ mod EndLemmas
 mod EnteredLemmas
 mod EntryLemmas
 mod ExtendLemmas
-mod FirstLemmas
 mod FrontLemmas
 mod JoinLemmas
 mod LeafCounts
@@ -18,16 +17,13 @@ mod LinkLemmas
 mod ListLemmas
 mod LoadedLemmas
 mod MemoryLemmas
-mod MergeLemmas
 mod MovingLemmas
 mod OwnedKeyLemmas
 mod PrefixRemovals
 mod RangeLemmas
 mod RefusalLemmas
-mod RetainedKeys
 mod RunLemmas
 mod SetLemmas
-mod SetOrders
 mod ShrinkLemmas
 mod SlotLemmas
 mod SortLemmas

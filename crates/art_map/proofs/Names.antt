@@ -67,7 +67,6 @@ pub use Rattle.art_map.specs.Entries.{entry_with, entries_with_value, if_prefix,
 pub use Rattle.art_map.specs.Extending.{put_all, MayStandTogether}
 pub use Rattle.art_map.specs.LeafEntries.{AllHold, keys_of, HoldsEntryOf}
 pub use Rattle.art_map.specs.Memory.{IsTrueOfTrees, Popped, Removed, RemovedEach, Emptied, GrownFor, Inserted, InsertsInRoom, KeepsRoom, KeptRoom, LackedRoomFor, RemovesEachInRoom, RemovesInRoom, WithoutRoom}
-pub use Rattle.art_map.specs.Merges.{walk, union, difference, has_text, intersection, symmetric_difference}
 pub use Rattle.art_map.specs.Nearest.{is_between, IsFirstAfter, IsLastBefore, IsNearest, entry_nearest}
 pub use Rattle.art_map.specs.Ranges.{entries_with_prefix, entries_from, is_from, is_up_to, entries_within, entries_below, entries_up_to, entries_above, entries_without_prefix, entries_in, keys_with_prefix, keys_without_prefix, entries_outside, keys_below, keys_from, keys_in}
 pub use Rattle.art_map.specs.Retaining.{LosesFirst, StopsRetaining, StopsFiltering}

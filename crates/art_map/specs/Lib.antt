@@ -10,7 +10,6 @@ pub mod LeafEntries
 pub mod MapCursors
 pub mod MapLending
 pub mod Memory
-pub mod Merges
 pub mod Nearest
 pub mod Ranges
 pub mod Retaining

@@ -1,4 +1,4 @@
-//! Where a call that adds many entries, or keys, stopped.
+//! Where a call that adds many entries stopped.
 use art_bytes::NoPrefixesBytes;
 use art_tree::{InsertFault, InsertRefusal};
 use std::alloc::AllocError;
@@ -6,7 +6,7 @@ use std::error::Error;
 use std::fmt;
 
 /// What a call that adds many entries returns where one of them is refused. Callers name it
-/// [`ExtendFault`] or [`ExtendKeysFault`].
+/// [`ExtendFault`].
 #[derive(Drop)]
 pub struct StoppedAt<K, V, T> {
     /// The first entry that was refused, with the reason.
@@ -29,9 +29,6 @@ pub struct StoppedAt<K, V, T> {
 /// assert!(rt; fault.refused.key.get() == "tint" && fault.added == 1 && fault.rest.len() == 1);
 /// ```
 pub type ExtendFault<K, V> = StoppedAt<K, V, (K, V)>;
-
-/// The same of a set: the key that was refused, and those behind it.
-pub type ExtendKeysFault<K> = StoppedAt<K, (), K>;
 
 /// The reason, without keys and values, which need not be printable.
 impl<K, V, T> fmt::Debug for StoppedAt<K, V, T> {

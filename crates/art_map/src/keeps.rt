@@ -1,6 +1,5 @@
-//! The test that is made at each entry, from a closure of a map or of a set.
+//! The test that is made at each entry, from a closure of a map.
 ghost use Rattle.std.specs.Prelude.{◌≡◌, Bool, false, true};
-ghost use Rattle.std.specs.Fn.{CalledAt, TakesAt};
 ghost use Rattle.std.specs.Map.Calls.{CalledAtPair, TakesPair};
 ghost use Rattle.art_map.specs.Calls.{ChangesValue, TakesValue};
 
@@ -37,28 +36,6 @@ impl<K, V, F: FnMut(&K, &mut V) -> bool> Keeps<K, V> for OnEntry<F> {
 
     fn keeps(&mut self, key: &K, value: &mut V) -> bool {
         (self.keep)(key, value)
-    }
-}
-
-// A closure over a key.
-#[derive(Drop)]
-pub(crate) struct OnKey<F> {
-    pub(crate) keep: F,
-}
-
-impl<F> Model for OnKey<F> {
-    ghost Value = { F };
-
-    ghost view = { λ test. test.keep };
-}
-
-impl<K, V, F: FnMut(&K) -> bool> Keeps<K, V> for OnKey<F> {
-    ghost accepts = { λ f key value. TakesAt F.FnMut f key };
-
-    ghost step = { λ f key value keeps now f'. CalledAt F.FnMut f key keeps f' };
-
-    fn keeps(&mut self, key: &K, _value: &mut V) -> bool {
-        (self.keep)(key)
     }
 }
 

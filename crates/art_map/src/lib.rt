@@ -1,6 +1,5 @@
 //! An ordered map over an adaptive radix tree: `Map<K, V>`, whose contracts see it as the list of its
-//! entries. `Set<K>` is an ordered set, seen as the list of its keys. They are `ArtMap` and `ArtSet` with
-//! the usual number in the third parameter. `CALLING.md` shows how they are used.
+//! entries. It is `ArtMap` with the usual number in the third parameter. `CALLING.md` shows how it is used.
 //!
 //! A key type has bytes (`AsBytes`) by which it sorts. `u64` is none: `Mapped<ToUBE, u64>` is, and there
 //! are others for addresses, strings and tuples.
@@ -25,7 +24,6 @@ mod moving;
 mod nearest;
 mod range;
 mod run_ends;
-mod set;
 mod short;
 mod sorted;
 mod view;
@@ -38,14 +36,13 @@ pub use art_tree::{
 };
 pub use cursor_mut::CursorMut;
 pub use entry::{Entry, OccupiedEntry, VacantEntry};
-pub use extend_fault::{ExtendFault, ExtendKeysFault, StoppedAt};
+pub use extend_fault::{ExtendFault, StoppedAt};
 pub use into_iter::{IntoIter, IntoKeys};
 pub use into_values::IntoValues;
 pub use iter::Iter;
 pub use keys::{Keys, Values};
 pub use map::{ArtMap, ArtTreeMap, DEFAULT_PREFIX_LEN, MapSeenAs};
-pub use set::{ArtSet, Merged};
-pub use short::{Map, Set};
+pub use short::Map;
 pub use view::{EntryList, MapView, ShowsMap, ViewOf};
 
 /// What the aliases above stand for. The compiler needs these names; no caller writes them.
@@ -58,5 +55,4 @@ pub mod parts {
     pub use crate::iter::{HasRuns, Run};
     pub use crate::keys::{RunKeys, RunValues};
     pub use crate::map::MapOver;
-    pub use crate::set::{MergedKeys, PeekedKeys, SetOver};
 }

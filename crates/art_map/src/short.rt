@@ -1,7 +1,6 @@
-//! The map and the set with [`DEFAULT_PREFIX_LEN`].
+//! The map with [`DEFAULT_PREFIX_LEN`].
 
 use crate::map::{ArtMap, DEFAULT_PREFIX_LEN};
-use crate::set::ArtSet;
 
 /// An ordered map: an [`ArtMap`] with [`DEFAULT_PREFIX_LEN`], and with all of its calls.
 ///
@@ -16,12 +15,3 @@ use crate::set::ArtSet;
 /// prices.insert(StrKey::new("iron"), 26)?;
 /// ```
 pub type Map<K, V> = ArtMap<K, V, DEFAULT_PREFIX_LEN>;
-
-/// An ordered set: an [`ArtSet`] with [`DEFAULT_PREFIX_LEN`], and with all of its calls.
-///
-/// (from tests/art_map_tests/map/short_types.rt.txt)
-/// ```rust
-/// let mut names = Set::<StrKey<'static>>::new(rt.alloc());
-/// assert!(rt; names.insert(StrKey::new("tin"))? && !names.insert(StrKey::new("tin"))?);
-/// ```
-pub type Set<K> = ArtSet<K, DEFAULT_PREFIX_LEN>;

@@ -1,11 +1,10 @@
-//! Entries in any order, loaded in the order of their keys, and keys alone.
+//! Entries in any order, loaded in the order of their keys.
 ghost use Rattle.std.specs.Prelude.{◌≡◌, ◌≤◌, ℕ, List, Option, Some, None, [], All, AllPairs, IfErr, IfOk, IsPermutation, OnErr, false, OnOk, ◌+◌, length, map, reverse, slice_index_or, vec_capacity, ◌<◌, ◌≢◌};
 ghost use Rattle.std.specs.List.Sorted.{IsStable};
 ghost use Rattle.std.specs.declared.cmp.Ordering.TheVariants.{Less};
 ghost use Rattle.art_bytes.specs.Text.{text_order};
 ghost use Rattle.art_tree.specs.Refusals.{texts_of};
 ghost use Rattle.art_map.specs.Extending.{put_all};
-ghost use Rattle.art_map.specs.Merges.{union};
 ghost use Rattle.art_map.specs.Sorting.{AreRanks, AreTakenFrom, entry_keys, head_of, put_slots, rank_order, slots_at, text_in};
 
 use crate::map::ArtMap;
@@ -241,77 +240,5 @@ pub(crate) fn load_sorted<K: AsBytes + Drop, V: Drop, const PREFIX_LEN: usize>(
             LoadRefusal::NotAscending(_) => sort_and_load(alloc, fault.entries),
             _ => Err(fault.entries),
         },
-    }
-}
-
-// Loads entries, in any order, of which the first of each key stays. Where one of them would be refused,
-// and where memory is, they come back in the opposite order.
-fn load_first_of_each<K: AsBytes + Drop, V: Drop, const PREFIX_LEN: usize>(
-    alloc: Global,
-    entries: Vec<(K, V)>,
-) -> Result<ArtMap<K, V, PREFIX_LEN>, Vec<(K, V)>>
-    ensures keys { IfOk result (λ map. entry_keys map ≡ union K.text [] (entry_keys entries.items)) }
-    ensures are_keys { OnOk result (All K.is_key (entry_keys entries.items)) }
-    ensures entries_back { IfErr result (λ back. back.items ≡ reverse entries.items) }
-{
-    match ArtMap::from_ascending(alloc, entries) {
-        Ok(map) => {
-            map.entries_ascend();
-            Ok(map)
-        }
-        Err(fault) => {
-            let mut entries = fault.entries;
-            entries.reverse();
-            match fault.refusal {
-                LoadRefusal::NotAscending(_) => sort_and_load(alloc, entries),
-                _ => Err(entries),
-            }
-        }
-    }
-}
-
-// Takes the keys out, from the last to the first, each with `()`.
-fn take_keys<K: Drop>(keys: &mut Vec<K>, entries: &mut Vec<(K, ())>)
-    requires none { entries.old.items ≡ [] }
-    requires room { length keys.old.items ≤ vec_capacity entries.old }
-    ensures entries { entry_keys entries.new.items ≡ reverse keys.old.items }
-    ensures emptied { keys.new.items ≡ [] }
-    ensures capacity { vec_capacity keys.new ≡ vec_capacity keys.old }
-{
-    'each: while let Some(key) = keys.pop() {
-        entries.push_reserved((key, ()));
-    }
-}
-
-// Puts the keys of the entries back, from the last to the first, into an empty vector that has room.
-fn put_keys_back<K: Drop>(mut entries: Vec<(K, ())>, mut keys: Vec<K>) -> Vec<K>
-    requires none { keys.items ≡ [] }
-    requires room { length entries.items ≤ vec_capacity keys }
-    ensures { result.items ≡ reverse (entry_keys entries.items) }
-{
-    'each: while let Some((key, _)) = entries.pop() {
-        keys.push_reserved(key);
-    }
-    keys
-}
-
-/// A map of these keys, in any order, of which the first of each stays. Where one of them would be
-/// refused, and where memory is, the keys come back in their order.
-pub(crate) fn load_keys<K: AsBytes + Drop, const PREFIX_LEN: usize>(
-    alloc: Global,
-    mut keys: Vec<K>,
-) -> Result<ArtMap<K, (), PREFIX_LEN>, Vec<K>>
-    ensures keys { IfOk result (λ map. entry_keys map ≡ union K.text [] keys.items) }
-    ensures are_keys { OnOk result (All K.is_key keys.items) }
-    ensures keys_back { IfErr result (λ back. back.items ≡ keys.items) }
-{
-    let Ok(mut entries) = Vec::with_capacity(alloc, keys.len()) else {
-        return Err(keys);
-    };
-    take_keys(&mut keys, &mut entries);
-    entries.reverse();
-    match load_first_of_each(alloc, entries) {
-        Ok(map) => Ok(map),
-        Err(entries) => Err(put_keys_back(entries, keys)),
     }
 }

@@ -1,9 +1,0 @@
-use Rattle.art_map.proofs.Names.{◌≡◌, ◌∙◌, [], sym, walk}
-use Rattle.art_map.proofs.MergeLemmas.{first_untaken}
-use Rattle.art_map.proofs.set.merging.MergedIterator.next.Goals as goal
-
-pub returns-then-not-self-2-clause-steps : goal.returns-then-not-self-2-clause-steps
-returns-then-not-self-2-clause-steps g c =
-    let none : walk g.K.AsBytes.text c.walk.self-inside.in_left c.walk.self-inside.in_both c.walk.self-inside.in_right c.walk.self-inside.left c.walk.self-inside.right ≡ [] =
-    rw (c.if-not-self-2.true, c.in_default-peek.ensures) (first_untaken g.K.AsBytes.text c.walk.self-inside.in_both c.walk.self-inside.in_right c.walk.self-inside.left) in
-    (sym c.self.view_is ∙ sym c.walk.invariant.0 ∙ none, none)

@@ -1,8 +1,0 @@
-use Rattle.art_map.proofs.Names.{◌∙◌, slice_partial_cmp}
-use Rattle.art_map.proofs.SetOrders.{partial_order_of_keys}
-use Rattle.art_map.proofs.set.relations.ArtSetPartialOrd.partial_cmp.Goals as goal
-
-pub returns : goal.returns
-returns g c =
-    c.partial_cmp.ensures ∙ partial_order_of_keys g.K.PartialOrd.partial_cmp c.self.inside.entries c.other.inside.entries
-    ∙ (λ i. slice_partial_cmp g.K.PartialOrd.partial_cmp (c.self.view_is i) (c.other.view_is i))
