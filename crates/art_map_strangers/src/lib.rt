@@ -7,3 +7,4 @@ pub mod nine_parts;
 pub mod over_pages;
 pub mod over_std;
 pub mod sixteen_maps;
+pub mod word_counts;
