@@ -2,7 +2,7 @@
 their calls return.
 
 Inserts in random order (but of ascending numbers), look-ups in another, of absent keys too, a visit of all entries from
-either end, removals in a third order, and `pop_first` of all. Of fewer than 20,000 entries there are several maps, with
+either end, a range of 100 entries from each hundredth key on, removals in a third order, and `pop_first` of all. Of fewer than 20,000 entries there are several maps, with
 20,000 in all. Both maps take turns in each run, so their ratio says more than either time: the last row has its median, and
 in brackets the least and the greatest.
 
@@ -29,7 +29,7 @@ SIZES = [10, 100, 500, 100_000, 1_000_000]
 RUNS = 7
 OURS, THEIRS = MAPS = ["`Map`", "`BTreeMap` of Rattle"]
 RATIO = "ratio"
-CALLS = ["insert", "get", "miss", "remove", "pop_first", "iterate", "iterate_back", "bytes", "peak"]
+CALLS = ["insert", "get", "miss", "remove", "pop_first", "iterate", "iterate_back", "range", "bytes", "peak"]
 ENTRIES_FOR_ONE = {"range": 100}  # of these calls one is made for so many entries
 
 
