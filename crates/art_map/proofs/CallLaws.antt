@@ -1,6 +1,5 @@
--- What a caller shows of the list of a map's entries, of that of a set's keys, of removals, and of a closure that it
--- passed.
-use Rattle.art_map.proofs.Names.{◌≡◌, ◌≢◌, ◌⊎◌, ◌∙◌, inl, inr, ℕ, ◌+◌, ◌≤◌, Bool, true, false, not, ◌&&◌, cond, List, [], ◌∷◌, ◌++◌, length, length-append, map, All, AllPairs, Contains, Option, Some, None, option_map, refl, sym, ap, subst, arith, nat_eq, Shared, pointwise, always_mut, FoldsTo, starts_with, SomeCallAtPair, match_ordering, is_ge, is_gt, Ordering, Less, Equal, Greater, Bound, length-map, All-cons, All-head, All-tail, text_order, Tree, Leaf, Inner, Branches, NoBranch, Branch, branch_roots, leaves, branch_leaves, IsSound, AreSound, put_entry, without_text, texts_of, CallableAtEachKey, CallableInTurn, ChangesValue, ChangesInTurn, SomeCallAtKey, entry_with, entries_with_value, entries_above, entries_from, entries_with_prefix, entries_within, is_from, is_up_to, HasKey, put_key, without_key, IsFewest, NeedsNode, ShrinksWithout, SomeShrinksWithout, Mut, MutBor, Bor, by_order, by_text, images_differ, put-long, and_parts}
+-- What a caller shows of the list of a map's entries, of removals, and of a closure that it passed.
+use Rattle.art_map.proofs.Names.{◌≡◌, ◌≢◌, ◌⊎◌, ◌∙◌, inl, inr, ℕ, ◌+◌, ◌≤◌, Bool, true, false, not, ◌&&◌, cond, List, [], ◌∷◌, ◌++◌, length, length-append, map, All, AllPairs, Contains, Option, Some, None, option_map, refl, sym, ap, subst, arith, nat_eq, Shared, pointwise, always_mut, FoldsTo, starts_with, SomeCallAtPair, is_ge, is_gt, Equal, Bound, length-map, All-cons, All-head, All-tail, text_order, Tree, Leaf, Inner, Branches, NoBranch, Branch, branch_roots, leaves, branch_leaves, IsSound, AreSound, put_entry, without_text, texts_of, CallableInTurn, ChangesValue, ChangesInTurn, entry_with, entries_with_value, entries_above, entries_from, entries_with_prefix, entries_within, is_from, is_up_to, IsFewest, NeedsNode, ShrinksWithout, SomeShrinksWithout, Mut, MutBor, Bor, by_text, images_differ, put-long, and_parts}
 use denote.Param.Always.{mut_next}
 -- an entry that is put, or a text that is taken out, by cases: what art_tree has of them
 pub use Rattle.art_tree.proofs.EntryLaws.{put-cases as put_cases, without-cases as without_cases}
@@ -220,103 +219,6 @@ module _ {K V : Type 0} (text : K → List ℕ) where
   distinct_keys [] ascend i j d before within = absurd (omega (arith, within))
   distinct_keys (entry ∷ entries) ascend i j d before within = images_differ (λ e. text e.0) (entry ∷ entries) (distinct_texts (texts_of text (entry ∷ entries)) ascend) i j d before within
 
--- the keys of a set
-module _ {K : Type 0} (text : K → List ℕ) where
-  put_key_cases : (Holds : List K → Type 0) (other : K) (keys : List K) (key : K) → (text_order (text key) (text other) ≡ Less → Holds (key ∷ other ∷ keys)) → (text_order (text key) (text other) ≡ Equal → Holds (other ∷ keys)) → (text_order (text key) (text other) ≡ Greater → Holds (other ∷ put_key text keys key))
-      → Holds (put_key text (other ∷ keys) key)
-  put_key_cases Holds other keys key less equal greater =
-      by_order (text key) (text other) (Holds (put_key text (other ∷ keys) key)) (λ is. placed Less is (less is)) (λ is. placed Equal is (equal is)) (λ is. placed Greater is (greater is))
-    where
-      placed : (o : Ordering) → text_order (text key) (text other) ≡ o → Holds (match_ordering o (key ∷ other ∷ keys) (other ∷ keys) (other ∷ put_key text keys key)) → Holds (put_key text (other ∷ keys) key)
-      placed o is = subst (λ o. Holds (match_ordering o (key ∷ other ∷ keys) (other ∷ keys) (other ∷ put_key text keys key))) (sym is)
-
-  -- the texts of a set with one key more: its own, and those of before
-  pub key_put : (keys : List K) (key : K) → HasKey text (put_key text keys key) (text key)
-  key_put [] key = first_there (text key) (text key) [] refl
-  key_put (other ∷ keys) key =
-      put_key_cases (λ all. HasKey text all (text key)) other keys key (λ _. first_there (text key) (text key) (map text (other ∷ keys)) refl) (λ equal. first_there (text other) (text key) (map text keys) (sym (same_order (text key) (text other) equal)))
-      (λ _. later_there (text other) (text key) (map text (put_key text keys key)) (key_put keys key))
-
-  pub keys_kept : (keys : List K) (key : K) (x : List ℕ) → HasKey text keys x → HasKey text (put_key text keys key) x
-  keys_kept [] key x inside = absurd (none_inside x inside)
-  keys_kept (other ∷ keys) key x inside =
-      put_key_cases (λ all. HasKey text all x) other keys key (λ _. later_there (text key) x (map text (other ∷ keys)) inside) (λ _. inside)
-      (λ _. in_rest (first_or_later (text other) x (map text keys) inside) (keys_kept keys key x))
-    where
-      in_rest : (text other ≡ x) ⊎ Contains (map text keys) x → (Contains (map text keys) x → HasKey text (put_key text keys key) x) → Contains (text other ∷ map text (put_key text keys key)) x
-      in_rest (inl same) rest = first_there (text other) x (map text (put_key text keys key)) same
-      in_rest (inr later) rest = later_there (text other) x (map text (put_key text keys key)) (rest later)
-
-  pub key_only : (keys : List K) (key : K) (x : List ℕ) → HasKey text (put_key text keys key) x → (text key ≡ x) ⊎ HasKey text keys x
-  key_only [] key x inside = first_or_later (text key) x [] inside
-  key_only (other ∷ keys) key x inside =
-      put_key_cases (λ all. HasKey text all x → (text key ≡ x) ⊎ HasKey text (other ∷ keys) x) other keys key (λ _. first_or_later (text key) x (map text (other ∷ keys))) (λ _ inside. inr inside)
-      (λ _ inside. behind (first_or_later (text other) x (map text (put_key text keys key)) inside) (key_only keys key x)) inside
-    where
-      behind : (text other ≡ x) ⊎ Contains (map text (put_key text keys key)) x → (HasKey text (put_key text keys key) x → (text key ≡ x) ⊎ HasKey text keys x) → (text key ≡ x) ⊎ HasKey text (other ∷ keys) x
-      behind (inl same) rest = inr (first_there (text other) x (map text keys) same)
-      behind (inr later) rest = in_place (rest later)
-        where
-          in_place : (text key ≡ x) ⊎ HasKey text keys x → (text key ≡ x) ⊎ HasKey text (other ∷ keys) x
-          in_place (inl same) = inl same
-          in_place (inr old) = inr (later_there (text other) x (map text keys) old)
-
-  -- a key whose text is there changes nothing
-  pub key_was_there : (keys : List K) (key : K) → Ascend (map text keys) → HasKey text keys (text key) → put_key text keys key ≡ keys
-  key_was_there [] key ascend has = absurd (none_inside (text key) has)
-  key_was_there (other ∷ keys) key ascend has =
-      put_key_cases (λ all. all ≡ other ∷ keys) other keys key (λ less. absurd (below_first (text other) (text key) (map text keys) ascend less has)) (λ _. refl)
-      (λ greater. ap (λ all. other ∷ all) (key_was_there keys key (ascend_rest (text other) (map text keys) ascend) (in_rest greater (first_or_later (text other) (text key) (map text keys) has))))
-    where
-      in_rest : text_order (text key) (text other) ≡ Greater → (text other ≡ text key) ⊎ Contains (map text keys) (text key) → Contains (map text keys) (text key)
-      in_rest greater (inl same) = absurd (greater_differs (text key) (text other) greater (sym same))
-      in_rest greater (inr later) = later
-
-  pub one_key_more : (keys : List K) (key : K) → ¬ HasKey text keys (text key) → length (put_key text keys key) ≡ length keys + 1
-  one_key_more [] key never = refl
-  one_key_more (other ∷ keys) key never =
-      put_key_cases (λ all. length all ≡ length (other ∷ keys) + 1) other keys key (λ _. omega arith) (λ equal. absurd (never (first_there (text other) (text key) (map text keys) (sym (same_order (text key) (text other) equal)))))
-      (λ _. omega (arith, one_key_more keys key (λ later. never (later_there (text other) (text key) (map text keys) later))))
-
-  -- a key that is taken out: its text is gone, and no other
-  pub key_gone : (keys : List K) (x : List ℕ) → ¬ HasKey text (without_key text keys x) x
-  key_gone keys x inside =
-      let (key, there, is) = inside_image text (without_key text keys x) x inside in
-      let part = part_inside (λ k. not (pointwise nat_eq (text k) x)) keys key there in
-      texts_differ (text key) x (not_so (pointwise nat_eq (text key) x) part.1) is
-
-  pub key_stays : (keys : List K) (x y : List ℕ) → x ≢ y → HasKey text keys y → HasKey text (without_key text keys x) y
-  key_stays keys x y differ inside =
-      let (key, there, is) = inside_image text keys y inside in
-      image_inside text (without_key text keys x) key y is (inside_part (λ k. not (pointwise nat_eq (text k) x)) keys key there (ap not (other_text (text key) x (λ same. differ (sym same ∙ is)))))
-
-  pub key_was : (keys : List K) (x y : List ℕ) → HasKey text (without_key text keys x) y → HasKey text keys y
-  key_was keys x y inside =
-      let (key, there, is) = inside_image text (without_key text keys x) y inside in
-      image_inside text keys key y is (part_inside (λ k. not (pointwise nat_eq (text k) x)) keys key there).0
-
-  pub no_key_taken : (keys : List K) (x : List ℕ) → ¬ HasKey text keys x → without_key text keys x ≡ keys
-  no_key_taken [] x never = refl
-  no_key_taken (key ∷ keys) x never =
-      rw (other_text (text key) x (λ same. never (first_there (text key) x (map text keys) same))) (ap (λ all. key ∷ all) (no_key_taken keys x (λ later. never (later_there (text key) x (map text keys) later))))
-
-  pub one_key_fewer : (keys : List K) (x : List ℕ) → Ascend (map text keys) → HasKey text keys x → length (without_key text keys x) + 1 ≡ length keys
-  one_key_fewer [] x ascend has = absurd (none_inside x has)
-  one_key_fewer (key ∷ keys) x ascend has = by_test (pointwise nat_eq (text key) x) refl (λ later. one_key_fewer keys x (ascend_rest (text key) (map text keys) ascend) later)
-    where
-      by_test : (t : Bool) → pointwise nat_eq (text key) x ≡ t → (HasKey text keys x → length (without_key text keys x) + 1 ≡ length keys) → length (without_key text (key ∷ keys) x) + 1 ≡ length (key ∷ keys)
-      by_test true is rest =
-          let never : ¬ HasKey text keys x = λ later. less_differs (text key) x (none_below (text key) x (map text keys) ascend later) (same_text (text key) x is) in
-          let same = ap length (no_key_taken keys x never) in
-          rw is (omega (arith, same))
-      by_test false is rest =
-          let fewer = rest (by_place (first_or_later (text key) x (map text keys) has)) in
-          rw is (omega (arith, fewer))
-        where
-          by_place : (text key ≡ x) ⊎ Contains (map text keys) x → Contains (map text keys) x
-          by_place (inl same) = absurd (texts_differ (text key) x is same)
-          by_place (inr later) = later
-
 -- removals: where one needs a node, there are five entries or more
 five : (count : ℕ) → IsFewest count → 5 ≤ count
 five count (inl is) = omega (arith, is)
@@ -370,15 +272,6 @@ module _ {F K V : Type 0} (g : Mut F (Bor K × (MutBor V × Unit {0})) (Unit {0}
   -- one that may always be called may be called at each entry
   pub callable_in_turn : (f : F) (entries : List (K × V)) → always_mut g f → CallableInTurn g f entries
   callable_in_turn f entries callable = record { at = λ before after f' key value is folds shown lent shows lends. ((still_callable before f f' folds callable).at ((shown, (lent, tt)) ∷ [])).0 }
-
-module _ {F K : Type 0} (g : Mut F (Bor K × Unit {0}) Bool) where
-  still_callable_at_keys : (keys : List K) (f f' : F) → FoldsTo (SomeCallAtKey g) f keys f' → always_mut g f → always_mut g f'
-  still_callable_at_keys [] f f' same callable = subst (always_mut g) same callable
-  still_callable_at_keys (key ∷ keys) f f' (state, (keeps, called), folds) callable = still_callable_at_keys keys state f' folds (mut_next g _ _ _ _ _ called.called refl callable)
-
-  -- one that may always be called may be called at each key
-  pub callable_at_each_key : (f : F) (keys : List K) → always_mut g f → CallableAtEachKey g f keys
-  callable_at_each_key f keys callable = record { at = λ before after f' key is folds shown shows. ((still_callable_at_keys before f f' folds callable).at ((shown, tt) ∷ [])).0 }
 
 module _ {F K V : Type 0} (g : Mut F (Bor K × (MutBor V × Unit {0})) (Unit {0} × (MutBor V × Unit {0}))) (change : K → V → V) (f : F)
     (same : (key : K) (value now : V) (f' : F) → ChangesValue g f key value now f' → (now ≡ change key value) × (f' ≡ f)) where

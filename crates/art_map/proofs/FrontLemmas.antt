@@ -1,5 +1,5 @@
 -- The key that is a prefix of a text, among keys of which none is a prefix of another.
-use Rattle.art_map.proofs.Names.{◌≡◌, ◌∙◌, ◌-◌, ◌≤◌, ℕ, suc, Bool, true, false, cond, List, [], ◌∷◌, ◌++◌, length, map, filter, drop, All, AllPairs, Contains, Option, Some, None, slice_get, refl, sym, ap, subst, arith, nat_eq, get_or, find, starts_with, option_map, nat_cmp, ordering_then, ordering_reverse, is_le, Ordering, Less, Equal, Greater, Decides-eqb, length-map, count_by-le-length, length-filter, All-head, All-tail, Contains-get_or, slice_get-map, starts_is, IsPrefixOf, text_order, texts_of, if_prefix, entries_up_to}
+use Rattle.art_map.proofs.Names.{◌≡◌, ◌∙◌, ◌-◌, ◌≤◌, ℕ, suc, Bool, true, false, cond, List, [], ◌∷◌, ◌++◌, length, filter, drop, All, AllPairs, Contains, Option, Some, None, slice_get, refl, sym, ap, subst, arith, nat_eq, get_or, find, starts_with, nat_cmp, ordering_then, ordering_reverse, is_le, Ordering, Less, Equal, Greater, Decides-eqb, count_by-le-length, length-filter, All-head, All-tail, Contains-get_or, starts_is, IsPrefixOf, text_order, texts_of, if_prefix, entries_up_to}
 use Rattle.std.proofs.lemmas.Cmp.{nat_cmp_total}
 use Rattle.std.proofs.lemmas.Map.Lookups.{exact_unsigned}
 use Rattle.art_map.proofs.CallLaws.{image_inside}
@@ -93,18 +93,6 @@ module _ {K V : Type 0} (text : K → List ℕ) (x : List ℕ) where
           ∙ ap (λ t. cond t (Some entry) None) is)
       by_test false is rest =
           by_last (low entry) refl is (entries_up_to text x entries) refl rest
-
--- what is read of the last of a list, and of the first that passes a test
-pub last-of-map : {A B : Type 0} (f : A → B) (xs : List A) → last_one (map f xs) ≡ option_map f (last_one xs)
-last-of-map f xs = slice_get-map f xs (length (map f xs) - 1) ∙ ap (λ n. option_map f (slice_get xs (n - 1))) (length-map xs f)
-
-pub find-of-map : {A B : Type 0} (f : A → B) (p : B → Bool) (xs : List A) → option_map f (find (λ x. p (f x)) xs) ≡ find p (map f xs)
-find-of-map f p [] = refl
-find-of-map {A} {B} f p (x ∷ xs) = by_test (p (f x)) (find-of-map f p xs)
-  where
-    by_test : (t : Bool) → option_map f (find (λ x. p (f x)) xs) ≡ find p (map f xs) → option_map f (cond t (Some x) (find (λ x. p (f x)) xs)) ≡ cond t (Some (f x)) (find p (map f xs))
-    by_test true rest = refl
-    by_test false rest = rest
 
 -- a part of a list is no longer than the list
 pub part-fits : {X : Type 0} (p : X → Bool) (xs part : List X) (most : ℕ) → part ≡ filter p xs → most ≡ length xs → length part ≤ most

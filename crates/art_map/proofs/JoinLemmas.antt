@@ -1,7 +1,6 @@
--- Entries that are joined to others, and their keys.
-use Rattle.art_map.proofs.Names.{◌≡◌, ◌≢◌, ◌⊎◌, ◌∙◌, inl, inr, ℕ, Bool, true, false, cond, List, [], ◌∷◌, ◌++◌, append_assoc, append-nil, length, Contains, Option, Some, None, refl, sym, ap, subst, arith, nat_eq, pointwise, nat_list_cmp_total, is_some, match_ordering, ordering_reverse, Less, Greater, Contains-append_right, text_order, Clashes, put_entry, texts_of, InsertRefusal, KeyTooLong, Prefix, OutOfMemory, IsAppendRefused, IsKeyAppendRefused, SomeClashes, SomeIsNew, SomeKeyClashes, SomeKeyIsNew, replace_all, entry_with, put_all}
-use Rattle.art_map.proofs.CallLaws.{Ascend, ascend_rest, first_or_later, found_after_put, image_inside, inside_image, later_there, none_below, none_has}
-use Rattle.art_map.proofs.SetLemmas.{key_in_place, keys-there, keys_in, texts-in}
+-- Entries that are joined to others.
+use Rattle.art_map.proofs.Names.{◌≡◌, ◌≢◌, ◌⊎◌, ◌∙◌, inl, inr, ℕ, Bool, true, false, cond, List, [], ◌∷◌, ◌++◌, append_assoc, append-nil, length, Contains, Option, Some, None, refl, sym, ap, subst, arith, nat_eq, pointwise, nat_list_cmp_total, is_some, match_ordering, ordering_reverse, Less, Greater, Contains-append_right, text_order, Clashes, put_entry, texts_of, SomeClashes, SomeIsNew, entry_with, put_all}
+use Rattle.art_map.proofs.CallLaws.{Ascend, ascend_rest, first_or_later, found_after_put, image_inside, later_there, none_below}
 
 -- there is room, or no need of it
 pub room-or-none : {A B : Type 0} (needed : Bool) → (needed ≡ true → A) → (B → needed ≡ true) → A ⊎ (B → ⊥)
@@ -11,6 +10,10 @@ room-or-none false room need = inr (λ b. let wrong : false ≡ true = need b in
 pub not-some : {A : Type 0} (o : Option A) → is_some o ≡ false → o ≡ None
 not-some None is = refl
 not-some (Some x) is = absurd (cc)
+
+pub none-some : {A : Type 0} (o : Option A) → o ≡ None → is_some o ≡ true → ⊥
+none-some None none some = absurd (cc)
+none-some (Some x) none some = absurd (cc)
 
 pub no-entries : {X : Type 0} (xs : List X) → length xs ≡ 0 → xs ≡ []
 no-entries [] is = refl
@@ -78,28 +81,3 @@ module _ {K V : Type 0} (text : K → List ℕ) where
 
   pub first-not-new : (entries : List (K × V)) (entry : K × V) (others : List (K × V)) → (SomeIsNew text entries (entry ∷ others) → ⊥) → entry_with text entries (text entry.0) ≢ None
   first-not-new entries entry others none new = none (some-first (λ other. entry_with text entries (text other.0) ≡ None) entry others new)
-
-  pub keys-replaced : (entries others : List (K × V)) → keys_in text (put_all text entries others) ≡ replace_all text (keys_in text entries) (keys_in text others)
-  keys-replaced entries [] = refl
-  keys-replaced entries ((key, value) ∷ others) =
-      keys-replaced (put_entry text entries (key, value)) others ∙ ap (λ keys. replace_all text keys (keys_in text others)) (key_in_place text entries key value)
-
-  -- what is said of the entries of two maps is said of their keys
-  module _ (entries others : List (K × V)) where
-    key-clashes : SomeClashes text entries others → SomeKeyClashes text (keys_in text entries) (keys_in text others)
-    key-clashes (other, inside, clash) =
-        (other.0, image_inside (λ (e : K × V). e.0) others other other.0 refl inside, subst (λ texts. Clashes texts (text other.0)) (sym (texts-in text entries)) clash)
-
-    pub entry-clashes : SomeKeyClashes text (keys_in text entries) (keys_in text others) → SomeClashes text entries others
-    entry-clashes (key, inside, clash) =
-        let from = inside_image (λ (e : K × V). e.0) others key inside in
-        (from.0, from.1, subst (λ key. Clashes (texts_of text entries) (text key)) (sym from.2) (subst (λ texts. Clashes texts (text key)) (texts-in text entries) clash))
-
-    key-new : SomeIsNew text entries others → SomeKeyIsNew text (keys_in text entries) (keys_in text others)
-    key-new (other, inside, none) =
-        (other.0, image_inside (λ (e : K × V). e.0) others other other.0 refl inside, λ has. none_has text entries (text other.0) none (subst (λ texts. Contains texts (text other.0)) (texts-in text entries) has))
-
-    pub append-refused : (refusal : InsertRefusal) → IsAppendRefused text entries others refusal → IsKeyAppendRefused text (keys_in text entries) (keys_in text others) refusal
-    append-refused KeyTooLong due = due
-    append-refused Prefix due = key-clashes due
-    append-refused OutOfMemory due = (λ clashes. due.0 (entry-clashes clashes), keys-there text entries due.1, key-new due.2)

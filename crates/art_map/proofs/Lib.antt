@@ -18,12 +18,10 @@ mod ListLemmas
 mod LoadedLemmas
 mod MemoryLemmas
 mod MovingLemmas
-mod OwnedKeyLemmas
 mod PrefixRemovals
 mod RangeLemmas
 mod RefusalLemmas
 mod RunLemmas
-mod SetLemmas
 mod ShrinkLemmas
 mod SlotLemmas
 mod SortLemmas

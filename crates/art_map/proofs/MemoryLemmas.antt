@@ -1,5 +1,5 @@
 -- What inserts and removals do to memory, and what lasts where nothing changes or a removal has another result.
-use Rattle.art_map.proofs.Names.{◌≡◌, ◌∙◌, ℕ, zero, suc, ◌+◌, ◌-◌, ◌≤◌, List, length, Option, Some, Result, Ok, Err, OnErr, OnOk, Bool, is_ok, true, false, inl, inr, refl, sym, ap, subst, arith, opaque_key, opaque_pointer, LeafNode, OpaqueNodePtr, NodeArena, Changes, HeldLeaf, held, leaf_at, leaf_count, leaf_place, entries_of, texts, with_value_at, Art, HasEntryRoom, HasRoomOf, HasValueNow, InsertsInRoom, KeepsRoom, RemovesEachInRoom}
+use Rattle.art_map.proofs.Names.{◌≡◌, ◌∙◌, ℕ, zero, suc, ◌+◌, ◌-◌, ◌≤◌, List, length, Some, Result, Ok, Err, OnErr, OnOk, Bool, is_ok, true, false, inl, inr, refl, sym, ap, subst, arith, opaque_key, opaque_pointer, LeafNode, OpaqueNodePtr, NodeArena, Changes, HeldLeaf, held, leaf_at, leaf_count, leaf_place, entries_of, texts, with_value_at, Art, HasEntryRoom, HasRoomOf, HasValueNow, KeepsRoom, RemovesEachInRoom}
 use Rattle.art_header.specs.declared.node_type.NodeType.{NodeType}
 use Rattle.art_header.specs.declared.node_type.NodeType.TheVariants as kinds
 use Rattle.art_nodes.specs.Leaf.{with_value}
@@ -9,25 +9,6 @@ use Rattle.art_tree.specs.NodeCounts.{nodes_of}
 use Rattle.art_tree.specs.Room.{LacksRoomToRemove}
 use Rattle.art_map.proofs.LeafCounts.{as-many-leaves}
 use Rattle.art_map.proofs.ListLemmas.{slot-of}
-
-module _ {K V : Type 0} {P : ℕ} (arena : NodeArena K V P) (fewer more : ℕ) (within : fewer ≤ more) where
-  fewer-of-kind : (kind : NodeType) → HasRoomOf kind arena more → HasRoomOf kind arena fewer
-  fewer-of-kind kind (inl enough) = inl (omega (arith, enough, within))
-  fewer-of-kind kind (inr fits) = inr (λ tree sound few. fits tree sound (omega (arith, few, within)))
-
-  -- room for some changes is room for fewer
-  pub fewer-room : HasEntryRoom arena more → HasEntryRoom arena fewer
-  fewer-room enough kind = fewer-of-kind kind (enough kind)
-
--- an insert that changes nothing takes no memory
-pub inserts-nothing : {K V : Type 0} {P : ℕ} (text : K → List ℕ) (tree : Art (NodeArena K V P) (OpaqueNodePtr K V P)) (x : List ℕ) (back : Option (K × V)) → InsertsInRoom text tree tree x (Ok back)
-inserts-nothing text tree x back = record {
-  takes_no_memory = λ some kind. refl;
-  memory = λ kind. inl refl;
-  no_room = tt;
-  room_suffices = λ count enough. tt;
-  room_lasts = λ count enough. fewer-room tree.arena count (count + 1) (omega arith) enough;
-}
 
 module _ {A E : Type 0} where
   -- what is said of a refusal holds where a result is one

@@ -1,4 +1,4 @@
--- Refusals of entries, and of keys, that are there.
+-- Refusals of entries that are there.
 use Rattle.art_map.proofs.Names.{◌≡◌, ◌≢◌, ◌⊎◌, ◌∙◌, inl, inr, ℕ, suc, ◌<◌, ◌^◌, List, [], ◌∷◌, length, All, AllPairs, Contains, Option, Some, None, sym, subst, arith, refl, All-contains, IsPrefixOf, OneIsProperPrefix, texts_of, InsertRefusal, KeyTooLong, Prefix, OutOfMemory, IsEntryRefused, entry_with}
 use Rattle.art_map.proofs.CallLaws.{first_or_later, none_inside, one_has}
 

@@ -2,7 +2,6 @@
 use Rattle.art_map.proofs.Names.{◌≡◌, ◌≢◌, ◌⊎◌, ◌∙◌, inl, inr, ℕ, suc, ◌+◌, ◌<◌, ◌≤◌, Bool, true, false, not, ◌&&◌, cond, List, [], ◌∷◌, ◌++◌, length, length-append, map, filter, drop, All, AllPairs, Contains, Contains-append_cases, Contains-append_left, Contains-append_right, Decides-eqb, eqb_tells, get_or_append_left, get_or_default, images_differ, map-append, ◌==◌, Option, Some, None, slice_index_or, get_or, refl, sym, ap, subst, arith, nat_eq, pointwise, All-nil, All-cons, All-head, All-tail, All-contains, Contains-get_or, length-map, get_or-map, is_eq, is_lt, match_ordering, nat_cmp, ordering_then, ordering_reverse, nat_list_cmp_total, Ordering, Less, Equal, Greater, same_Some, text_order, put_entry, texts_of, entry_with, put_all, AreRanks, AreTakenFrom, head_of, put_slots, rank_order, slot_text, slots_at, text_in}
 use Rattle.std.proofs.lemmas.List.Kept.{AllPairs-cons}
 use Rattle.std.specs.List.Sorted.{IsPermutation, IsStableBy, ties}
-use Rattle.std.proofs.Math.ListN.{drop_of_length-le}
 use Rattle.std.proofs.lemmas.List.{drop_more}
 use Rattle.std.proofs.lemmas.List.Sorted.{IsPermutation-map}
 use Rattle.std.proofs.lemmas.Map.Keys.{IsDistinct-IsPermutation}
@@ -12,8 +11,17 @@ use Rattle.std.proofs.lemmas.Cmp.{nat_cmp_total, on_total, then_total, tied_itse
 use Rattle.art_bytes.proofs.TextLaws.{all_below, ascend_rest, by_order, by_text, first_below, greater_turned, order_itself, same_texts}
 use Rattle.art_map.proofs.CallLaws.{Ascend, each_found, first_there, found_after_put, found_is, image_inside, inside_image, later_there, put_cases, same_order, none_inside, put_only}
 use Rattle.art_map.proofs.JoinLemmas.{put-last}
-use Rattle.art_map.proofs.SetLemmas.{map-of-filter}
 use Rattle.art_bytes.proofs.Members.{the_one}
+
+-- a test of what a function gives, before it and behind it
+map-of-filter : {A B : Type 0} (f : A → B) (p : B → Bool) (xs : List A) → map f (filter (λ x. p (f x)) xs) ≡ filter p (map f xs)
+map-of-filter f p [] = refl
+map-of-filter {A} {B} f p (x ∷ xs) = by_test (p (f x)) (map-of-filter f p xs)
+  where
+    by_test : (t : Bool) → map f (filter (λ x. p (f x)) xs) ≡ filter p (map f xs)
+        → map f (cond t (x ∷ filter (λ x. p (f x)) xs) (filter (λ x. p (f x)) xs)) ≡ cond t (f x ∷ filter p (map f xs)) (filter p (map f xs))
+    by_test true rest = ap (λ ys. f x ∷ ys) rest
+    by_test false rest = rest
 
 module _ {X : Type 0} where
   -- lists with the same elements are one
@@ -274,13 +282,6 @@ module _ {K V : Type 0} (text : K → List ℕ) where
       pub earlier : (p : ℕ) → Contains places p → (j : ℕ) × (j < i) × ((d : ℕ × ℕ) → (get_or ranks j d).1 ≡ p)
       pub order : Ascend (texts_of text taken) → put_slots text [] (slots_at slots ranks) ≡ put_slots text taken (slots_at slots (drop i ranks))
 
-    pub none-taken : Taking slots 0 [] []
-    none-taken = record {
-      from = record { as_many = refl; each = refl; others = λ i. inr refl };
-      earlier = λ p inside. absurd (none_inside p inside);
-      order = λ _. refl;
-    }
-
     module _ (now : List (Option (K × V))) (i : ℕ) (taken : List (K × V)) (places : List ℕ) (taking : Taking now i taken places) (differ : AllPairs (λ a b. a.1 ≢ b.1) ranks) (full : All (λ rank. slot-of slots rank ≢ None) ranks) where
       -- the slot of a later rank has its entry
       pub untouched : (j : ℕ) (d : ℕ × ℕ) → i ≤ j → j < length ranks → slot-of now (get_or ranks j d) ≡ slot-of slots (get_or ranks j d)
@@ -344,7 +345,3 @@ module _ {K V : Type 0} (text : K → List ℕ) where
           first-ascend xs ys ascend a b x before inside =
               subst (λ y. text_order y (get_or xs b x) ≡ Less) (get_or_append_left xs ys x a (omega (arith, before, inside)))
               (subst (λ y. text_order (get_or (xs ++ ys) a x) y ≡ Less) (get_or_append_left xs ys x b inside) (ascend a b x before (omega (arith, inside, length-append xs ys))))
-
-    -- all were taken
-    pub all-taken : (now : List (Option (K × V))) (i : ℕ) (taken : List (K × V)) (places : List ℕ) → Taking now i taken places → length ranks ≤ i → Ascend (texts_of text taken) → put_slots text [] (slots_at slots ranks) ≡ taken
-    all-taken now i taken places taking end ascend = taking.order ascend ∙ ap (λ rest. put_slots text taken (slots_at slots rest)) (drop_of_length-le ranks end)

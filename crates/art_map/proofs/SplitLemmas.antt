@@ -69,6 +69,3 @@ module _ {K V : Type 0} (text : K → List ℕ) (x : List ℕ) where
     some-below ascend fewer nil =
         let all : length (entries_from text x entries) ≡ length entries = ap length (sym (ap (λ es. es ++ entries_from text x entries) nil) ∙ split-parts entries ascend) in
         omega (arith, all, many, fewer)
-
-    pub some-from : 0 < count → entries_from text x entries ≢ []
-    some-from some nil = omega (arith, some, many, ap length nil)

@@ -1,6 +1,6 @@
--- Texts that were put into a map, or a set, one after the other: they may stand together.
-use Rattle.art_map.proofs.Names.{◌≡◌, ◌⊎◌, ◌∙◌, inl, inr, ℕ, ◌<◌, ◌^◌, Bool, true, false, List, [], ◌∷◌, length, map, All, AllPairs, Contains, get_or, refl, sym, subst, arith, nat_eq, pointwise, All-contains, Contains-get_or, OneIsProperPrefix, put_entry, texts_of, put_all, MayStandTogether, union, HasKey, put_key}
-use Rattle.art_map.proofs.CallLaws.{first_or_later, image_inside, inside_image, key_put, keys_kept, none_inside, others_there, put_there, same_text, texts_differ}
+-- Texts that were put into a map, one after the other: they may stand together.
+use Rattle.art_map.proofs.Names.{◌≡◌, ◌⊎◌, ◌∙◌, inl, inr, ℕ, ◌<◌, ◌^◌, Bool, true, false, List, [], ◌∷◌, length, All, AllPairs, Contains, get_or, refl, sym, arith, nat_eq, pointwise, All-contains, Contains-get_or, OneIsProperPrefix, put_entry, texts_of, put_all, MayStandTogether}
+use Rattle.art_map.proofs.CallLaws.{first_or_later, image_inside, inside_image, none_inside, others_there, put_there, same_text, texts_differ}
 use Rattle.art_map.proofs.FrontLemmas.{Apart}
 use Rattle.art_map.proofs.RefusalLemmas.{members_apart}
 
@@ -48,20 +48,3 @@ module _ {K V : Type 0} (text : K → List ℕ) where
 
   pub entries-together : (entries others : List (K × V)) → All (λ x. length x < 2 ^ 32) (texts_of text (put_all text entries others)) → AllPairs Apart (texts_of text (put_all text entries others)) → MayStandTogether (texts_of text others)
   entries-together entries others short apart = together (texts_of text (put_all text entries others)) (texts_of text others) short apart (λ x inside. texts-put entries others x (inr inside))
-
-module _ {K : Type 0} (text : K → List ℕ) where
-  keys-put : (keys others : List K) (x : List ℕ) → HasKey text keys x ⊎ HasKey text others x → HasKey text (union text keys others) x
-  keys-put keys [] x (inl before) = before
-  keys-put keys [] x (inr now) = absurd (none_inside x now)
-  keys-put keys (key ∷ others) x place = keys-put (put_key text keys key) others x (placed place)
-    where
-      now_put : (text key ≡ x) ⊎ HasKey text others x → HasKey text (put_key text keys key) x ⊎ HasKey text others x
-      now_put (inl same) = inl (subst (HasKey text (put_key text keys key)) same (key_put text keys key))
-      now_put (inr later) = inr later
-
-      placed : HasKey text keys x ⊎ HasKey text (key ∷ others) x → HasKey text (put_key text keys key) x ⊎ HasKey text others x
-      placed (inl before) = inl (keys_kept text keys key x before)
-      placed (inr now) = now_put (first_or_later (text key) x (map text others) now)
-
-  pub keys-together : (keys others : List K) → All (λ x. length x < 2 ^ 32) (map text (union text keys others)) → AllPairs Apart (map text (union text keys others)) → MayStandTogether (map text others)
-  keys-together keys others short apart = together (map text (union text keys others)) (map text others) short apart (λ x inside. keys-put keys others x (inr inside))

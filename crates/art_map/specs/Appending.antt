@@ -1,11 +1,10 @@
 -- The entries of one map that go into another, all or none.
-use Rattle.std.specs.Prelude.{◌≡◌, ◌≢◌, ℕ, List, [], Contains, None, fold, map}
+use Rattle.std.specs.Prelude.{◌≡◌, ◌≢◌, ℕ, List, [], Contains, None}
 use Rattle.art_tree.specs.Dictionary.{Clashes}
 use Rattle.art_tree.specs.Refusals.{texts_of}
 use Rattle.art_tree.specs.declared.insert.InsertRefusal.{InsertRefusal}
 use Rattle.art_tree.specs.declared.insert.InsertRefusal.TheVariants.{KeyTooLong, Prefix, OutOfMemory}
 use Rattle.art_map.specs.Entries.{entry_with}
-use Rattle.art_map.specs.Sets.{HasKey, replace_key}
 
 module _ {K V : Type 0} (text : K → List ℕ) where
   -- the text of one of the others clashes with a text of these entries
@@ -21,22 +20,3 @@ module _ {K V : Type 0} (text : K → List ℕ) where
   IsAppendRefused entries others KeyTooLong = ⊥
   IsAppendRefused entries others Prefix = SomeClashes entries others
   IsAppendRefused entries others OutOfMemory = (¬ SomeClashes entries others) × (entries ≢ []) × SomeIsNew entries others
-
-module _ {K : Type 0} (text : K → List ℕ) where
-  -- the keys, with each of the others put at its place in turn, or in place of the one with its text
-  abbrev pub replace_all : List K → List K → List K
-  replace_all keys others = fold (replace_key text) keys others
-
-  -- the text of one of the others clashes with a text of these keys
-  abbrev pub SomeKeyClashes : List K → List K → Type 0
-  SomeKeyClashes keys others = (other : K) × Contains others other × Clashes (map text keys) (text other)
-
-  -- the text of one of the others is that of none of these keys
-  abbrev pub SomeKeyIsNew : List K → List K → Type 0
-  SomeKeyIsNew keys others = (other : K) × Contains others other × (¬ HasKey text keys (text other))
-
-  -- the refusal that is due to the keys of another set; memory is needed only where there are keys, and for a new text
-  abbrev pub IsKeyAppendRefused : List K → List K → InsertRefusal → Type 0
-  IsKeyAppendRefused keys others KeyTooLong = ⊥
-  IsKeyAppendRefused keys others Prefix = SomeKeyClashes keys others
-  IsKeyAppendRefused keys others OutOfMemory = (¬ SomeKeyClashes keys others) × (keys ≢ []) × SomeKeyIsNew keys others

@@ -1,7 +1,6 @@
--- What a closure did with the values of a map, and where it may be called, also at the keys of a set.
-use Rattle.std.specs.Prelude.{◌≡◌, Bool, List, [], ◌∷◌, ◌++◌}
-use Rattle.std.specs.Fn.{Called, CalledAt, Takes, TakesAt}
-use Rattle.std.specs.List.{FoldsTo}
+-- What a closure did with the values of a map, and where it may be called.
+use Rattle.std.specs.Prelude.{◌≡◌, List, [], ◌∷◌}
+use Rattle.std.specs.Fn.{Called, Takes}
 use Rattle.std.specs.Map.Calls.{CallableOnEachPair}
 use denote.Param.Members.{Mut}
 use denote.Ref.{Bor, MutBor}
@@ -30,12 +29,3 @@ module _ {F K V : Type 0} (g : Mut F (Bor K × (MutBor V × Unit {0})) (Unit {0}
   ChangesInTurn f [] new = new ≡ []
   ChangesInTurn f (entry ∷ entries) new =
       (value : V) × (f' : F) × (rest : List (K × V)) × ChangesValue f entry.0 entry.1 value f' × ChangesInTurn f' entries rest × (new ≡ (entry.0, value) ∷ rest)
-
-module _ {F K : Type 0} (g : Mut F (Bor K × Unit {0}) Bool) where
-  -- a call of f at a `&` to the key may leave f'
-  abbrev pub SomeCallAtKey : F → K → F → Type 0
-  SomeCallAtKey f key f' = (keeps : Bool) × CalledAt g f key keeps f'
-
-  -- f may be called at each key, as the calls at the keys before have left it
-  pub record CallableAtEachKey (f : F) (keys : List K) : Type 0 where
-    pub at : (before after : List K) (f' : F) (key : K) → keys ≡ before ++ key ∷ after → FoldsTo SomeCallAtKey f before f' → TakesAt g f' key

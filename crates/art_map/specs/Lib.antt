@@ -14,6 +14,5 @@ pub mod Nearest
 pub mod Ranges
 pub mod Retaining
 pub mod Runs
-pub mod Sets
 pub mod Shrinking
 pub mod Sorting

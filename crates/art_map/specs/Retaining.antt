@@ -1,9 +1,6 @@
--- What a removal of some of the entries, or the keys, leaves where it is refused.
+-- What a removal of some of the entries leaves where it is refused.
 use Rattle.std.specs.Prelude.{◌≡◌, ◌⊎◌, ℕ, Bool, false, cond, not, List, [], ◌∷◌, ◌++◌, filter, nat_eq}
-use Rattle.std.specs.Fn.{CalledAt}
 use Rattle.std.specs.List.{starts_with}
-use denote.Param.Members.{Mut}
-use denote.Ref.{Bor}
 
 module _ {F K V : Type 0} (T : F → K → V → Bool → V → F → Type 0) (needs_node : K → Type 0) where
   -- f was called at each entry in turn, up to one at which it returned false, whose removal needs a node: it stays, with
@@ -15,15 +12,6 @@ module _ {F K V : Type 0} (T : F → K → V → Bool → V → F → Type 0) (n
       (keeps : Bool) × (value : V) × (f' : F) × T f entry.0 entry.1 keeps value f'
       × (((keeps ≡ false) × needs_node entry.0 × (new ≡ (entry.0, value) ∷ entries))
       ⊎ ((rest : List (K × V)) × StopsRetaining f' entries rest × (new ≡ cond keeps ((entry.0, value) ∷ rest) rest)))
-
-module _ {F K : Type 0} (g : Mut F (Bor K × Unit {0}) Bool) (needs_node : K → Type 0) where
-  -- the same of keys alone
-  abbrev pub StopsFiltering : F → List K → List K → Type 0
-  StopsFiltering f [] new = ⊥
-  StopsFiltering f (key ∷ keys) new =
-      (keeps : Bool) × (f' : F) × CalledAt g f key keeps f'
-      × (((keeps ≡ false) × needs_node key × (new ≡ key ∷ keys))
-      ⊎ ((rest : List K) × StopsFiltering f' keys rest × (new ≡ cond keeps (key ∷ rest) rest)))
 
 module _ {X : Type 0} (text : X → List ℕ) (x : List ℕ) (needs_node : List ℕ → Type 0) where
   -- of those that begin with these bytes the first are gone, up to one whose removal needs a node; it stays, as do those

@@ -13,10 +13,6 @@ head_of x =
     (slice_index_or x 0 0 ∷ slice_index_or x 1 0 ∷ slice_index_or x 2 0 ∷ slice_index_or x 3 0 ∷ slice_index_or x 4 0 ∷ slice_index_or x 5 0 ∷ slice_index_or x 6 0 ∷ slice_index_or x 7 0 ∷ [])
 
 module _ {K V : Type 0} where
-  -- the keys of entries
-  abbrev pub entry_keys : List (K × V) → List K
-  entry_keys entries = map (λ entry. entry.0) entries
-
   -- what is in the slots at these indices
   abbrev pub slots_at : List (Option (K × V)) → List (ℕ × ℕ) → List (Option (K × V))
   slots_at slots ranks = map (λ rank. slice_index_or slots rank.1 None) ranks

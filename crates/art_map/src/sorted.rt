@@ -1,11 +1,11 @@
 //! Entries in any order, loaded in the order of their keys.
-ghost use Rattle.std.specs.Prelude.{◌≡◌, ◌≤◌, ℕ, List, Option, Some, None, [], All, AllPairs, IfErr, IfOk, IsPermutation, OnErr, false, OnOk, ◌+◌, length, map, reverse, slice_index_or, vec_capacity, ◌<◌, ◌≢◌};
+ghost use Rattle.std.specs.Prelude.{◌≡◌, ◌≤◌, ℕ, List, Option, Some, None, [], All, AllPairs, IfErr, IfOk, IsPermutation, false, OnOk, ◌+◌, length, map, slice_index_or, vec_capacity, ◌<◌, ◌≢◌};
 ghost use Rattle.std.specs.List.Sorted.{IsStable};
 ghost use Rattle.std.specs.declared.cmp.Ordering.TheVariants.{Less};
 ghost use Rattle.art_bytes.specs.Text.{text_order};
 ghost use Rattle.art_tree.specs.Refusals.{texts_of};
 ghost use Rattle.art_map.specs.Extending.{put_all};
-ghost use Rattle.art_map.specs.Sorting.{AreRanks, AreTakenFrom, entry_keys, head_of, put_slots, rank_order, slots_at, text_in};
+ghost use Rattle.art_map.specs.Sorting.{AreRanks, AreTakenFrom, head_of, put_slots, rank_order, slots_at, text_in};
 
 use crate::map::ArtMap;
 use art_bytes::AsBytes;

@@ -1,6 +1,5 @@
 use Rattle.art_map.proofs.Names.{◌≡◌, ◌∙◌, None, true, false, refl, sym, subst, entry_with}
-use Rattle.art_map.proofs.JoinLemmas.{SomeOf, none-of-none, not-some, some-first, some-later, some-rest}
-use Rattle.art_map.proofs.SetLemmas.{none-some}
+use Rattle.art_map.proofs.JoinLemmas.{SomeOf, none-of-none, none-some, not-some, some-first, some-later, some-rest}
 use Rattle.art_map.proofs.map.many_entries.ArtMap+K+V+PREFIX_LEN.lacks_some_of.Goals as goal
 
 pub each-init : goal.each-init
