@@ -1,2 +1,0 @@
-mod EntryChanges
-mod FirstItems

@@ -1,4 +1,4 @@
-//! Proved callers of maps and sets, which use public names alone, as another crate does.
+//! Proved callers of maps, which use public names alone, as another crate does.
 //!
 //! What `art_node_tests` says of its callers and tests holds here too. `map_examples` shows how a
 //! crate uses `art_map`.

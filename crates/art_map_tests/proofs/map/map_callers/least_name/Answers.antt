@@ -1,6 +1,0 @@
-use Rattle.std.proofs.Common.{◌∙◌, ap, slice_get}
-use Rattle.art_map_tests.proofs.FirstItems.{first-of}
-use Rattle.art_map_tests.proofs.map.map_callers.least_name.Goals as goal
-
-pub returns : goal.returns
-returns g c = first-of c.into_keys.result c.next.new.self c.next.result c.next.ensures.steps ∙ ap (λ items. slice_get items 0) c.into_keys.ensures
