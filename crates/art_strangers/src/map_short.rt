@@ -1,5 +1,5 @@
-//! Maps and sets that name no number.
-use art_map::{Map, Mapped, Set, ToUBE};
+//! Maps that name no number.
+use art_map::{Map, Mapped, ToUBE};
 use std::alloc::Global;
 
 type Number = Mapped<ToUBE, u64>;
@@ -11,11 +11,6 @@ pub fn empty(alloc: Global) -> Map<Number, u64> {
 pub fn is_metal(alloc: Global, number: u64) -> bool {
     let mut metals = Map::<Number, &str>::new(alloc);
     metals.insert(Number::of(79), "gold").is_ok() && metals.contains_key(&Number::of(number))
-}
-
-pub fn is_seen(alloc: Global, number: u64) -> bool {
-    let mut seen = Set::<Number>::new(alloc);
-    seen.insert(Number::of(79)).is_ok() && seen.contains(&Number::of(number))
 }
 
 pub fn sum(counts: &Map<[u8; 3], u32>) -> u32 {

@@ -1,11 +1,14 @@
 //! Keys that are strings.
-use art_map::ArtMap;
+use art_map::{ArtMap, Escaped, Map, Mapped};
 use art_tree::SliceKey;
+use std::alloc::{AllocError, Global};
 use std::ops::Bound;
 
 type Key = String;
 
 type Index = ArtMap<Key, u32, 16>;
+
+type Word = Mapped<Escaped, String>;
 
 fn put(index: &mut Index, key: Key, value: u32) -> bool {
     index.insert(key, value).is_ok()
@@ -29,4 +32,15 @@ pub fn count_from(index: &Index, start: &[u8]) -> u32 {
         count = count.wrapping_add(1);
     }
     count
+}
+
+/// The key is made of the word, which takes memory too.
+pub fn add_word(
+    alloc: Global,
+    pages: &mut Map<Word, u32>,
+    word: String,
+    page: u32,
+) -> Result<(), AllocError> {
+    pages.insert(Word::new(alloc, word)?, page)?;
+    Ok(())
 }
