@@ -11,6 +11,9 @@ use std::mem;
 /// How many more bytes the keys have to share before all heads are read anew.
 const FEW_BYTES: u32 = 4;
 
+/// A page with fewer entries has no heads: it is searched by its keys.
+pub(crate) const FEWEST_HEADS: usize = 16;
+
 /// The heads of all entries of a page, or none.
 #[derive(Drop)]
 pub(crate) struct Heads {
@@ -65,6 +68,10 @@ impl Heads {
         requires { place < length pairs.now }
     {
         let len = pairs.len();
+        if len < FEWEST_HEADS {
+            self.heads.clear();
+            return;
+        }
         // A key between two others shares what they share.
         let is_end = place == 0 || place == len - 1;
         let is_apart = is_end && self.skip != 0 && shared_len(pairs) < self.skip;
@@ -78,10 +85,6 @@ impl Heads {
             .is_err()
         {
             self.heads.clear();
-        }
-        // The first page begins with few keys, which may share little.
-        if len == 12 {
-            self.skip_more(pairs);
         }
     }
 

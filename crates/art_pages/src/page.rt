@@ -7,7 +7,7 @@ ghost use Rattle.std.specs.Ordering.{ordering_reverse};
 ghost use Rattle.art_pages.specs.Entries.{IsOrdered, IsIndexable, AreKeys, IsPlaceOf};
 
 use crate::guess::place_near;
-use crate::heads::Heads;
+use crate::heads::{FEWEST_HEADS, Heads};
 use art_keys::{KeyBytes, RadixKey, RadixQuery};
 use std::alloc::{AllocError, AllocFailed, Global};
 use std::cmp::Ordering;
@@ -129,6 +129,9 @@ impl<K: RadixKey, V> Page<K, V> {
         // The laws of orders hold for queries that their type has.
         let _len = query.encoded_len();
         let pairs = self.pairs.as_slice();
+        if K::WANTS_HEADS && pairs.len() < FEWEST_HEADS {
+            return self.search_all(query);
+        }
         let guess = self.heads.guess(pairs, query);
         match place_near(pairs, guess, query) {
             Some(place) => place,
