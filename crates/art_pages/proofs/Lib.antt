@@ -4,3 +4,5 @@ pub mod MiddleLemmas
 mod ValueLemmas
 mod KeptLemmas
 pub mod FoundLemmas
+pub mod RetainLemmas
+mod SiftLemmas

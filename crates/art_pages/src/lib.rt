@@ -3,6 +3,9 @@
 
 mod guess;
 mod heads;
+mod keeps;
 mod page;
+mod sift;
 
+pub use keeps::{Keeps, OnEntry, OnValue};
 pub use page::Page;

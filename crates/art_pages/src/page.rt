@@ -2,12 +2,16 @@
 ghost use Rattle.std.specs.Prelude.{◌≡◌, ◌+◌, ◌-◌, ◌<◌, ◌≤◌, ◌↔◌, ◌++◌, [], length, take, drop, insert, remove, slice_get, vec_capacity, IsTrue, IsOk, IfOk, IfErr, OnOk, OnErr, Some, Ok, Err};
 ghost use Rattle.std.specs.BTreeMap.{insert_entry};
 ghost use Rattle.std.specs.Borrow.{sem};
+ghost use Rattle.std.specs.Map.Calls.{CallableOnEachPair};
 ghost use Rattle.std.specs.Option.{option_map};
 ghost use Rattle.std.specs.Ordering.{ordering_reverse};
 ghost use Rattle.art_pages.specs.Entries.{IsOrdered, IsIndexable, AreKeys, IsPlaceOf};
+ghost use Rattle.art_pages.specs.Retaining.{RetainsTo};
 
 use crate::guess::place_near;
 use crate::heads::{FEWEST_HEADS, Heads};
+use crate::keeps::Keeps;
+use crate::sift::retain_pairs;
 use art_keys::{KeyBytes, RadixKey, RadixQuery};
 use std::alloc::{AllocError, AllocFailed, Global};
 use std::cmp::Ordering;
@@ -306,6 +310,26 @@ impl<K: RadixKey, V> Page<K, V> {
     {
         self.pairs.truncate(len);
         self.heads.follow_truncate(len);
+    }
+
+    /// Tests each entry in turn, and drops those that the test does not keep: so many are gone. The test
+    /// may change the values. The capacity stays.
+    pub fn retain<F: Keeps<K, V>>(&mut self, test: &mut F) -> usize
+    where
+        K: Drop,
+        V: Drop,
+        requires { CallableOnEachPair F.step F.accepts test.old self.old.entries }
+        ensures retained { RetainsTo F.step test.old self.old.entries self.new.entries test.new }
+        ensures gone { length self.new.entries + result ≡ length self.old.entries }
+        ensures capacity { self.new.capacity ≡ self.old.capacity }
+    {
+        let before = self.pairs.len();
+        retain_pairs(&mut self.pairs, test);
+        let gone = before - self.pairs.len();
+        if gone != 0 {
+            self.heads.follow_entries(self.pairs.as_slice());
+        }
+        gone
     }
 
     /// Drops all entries. The capacity stays.
