@@ -18,3 +18,5 @@ pub mod SpotLemmas
 pub mod BoundLemmas
 pub mod WithinLemmas
 pub mod SpanLemmas
+pub mod WalkLemmas
+pub mod CalledLemmas

@@ -9,3 +9,4 @@ pub mod Lending
 pub mod EntryCalls
 pub mod Ranges
 pub mod Seats
+pub mod Walk

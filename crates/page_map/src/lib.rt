@@ -14,6 +14,7 @@ mod room;
 mod runs;
 mod spots;
 mod take;
+mod walk;
 mod within;
 
 pub use entry::{Entry, EntryOver, OccupiedEntry, OccupiedOver, VacantEntry, VacantOver};

@@ -10,6 +10,7 @@ mod many_entries;
 mod ranges;
 mod reading;
 mod removals;
+mod retaining;
 
 use art_arena::LeafPtr;
 use art_index::Anchor;
