@@ -6,10 +6,7 @@ ghost use Rattle.art_pages.specs.Retaining.{RetainsTo};
 use crate::keeps::Keeps;
 
 /// Tests each entry in turn, and drops those that the test does not keep. The others close up.
-pub(crate) fn retain_pairs<K: Drop, V: Drop, F: Keeps<K, V>>(
-    pairs: &mut Vec<(K, V)>,
-    test: &mut F,
-)
+pub(crate) fn retain_pairs<K: Drop, V: Drop, F: Keeps<K, V>>(pairs: &mut Vec<(K, V)>, test: &mut F)
     requires { CallableOnEachPair F.step F.accepts test.old pairs.old.items }
     ensures retained { RetainsTo F.step test.old pairs.old.items pairs.new.items test.new }
     ensures capacity { vec_capacity pairs.new ≡ vec_capacity pairs.old }

@@ -120,17 +120,13 @@ module _ {K V : Type 0} {P : ℕ} where
       let before = rank-placed arena leaf here in let long = ap length here.list ∙ length-append here.left (here.entry ∷ here.right) in
       let count = ap length (sym is) in omega (arith, before, long, count)
 
-  module _ {F : Type 0} (T : F → K → V → Bool → V → F → Type 0) (Q : F → K → V → Type 0) (first : F) (entries : List (K × V)) where
-    -- at the first leaf
-    pub walk-start : (arena : Arena K V P) (at : Option (Leaf K V P)) → entries_in (pages_of arena) ≡ entries → CallableOnEachPair T Q first entries → IsAt arena at [] (entries_of (λ anchor. anchor) arena) → IsWalk T Q first entries arena at first
-    walk-start arena at are callable there = record {
-      seen = [];
-      rest = entries_of (λ anchor. anchor) arena;
-      there = there;
-      callable = subst (CallableOnEachPair T Q first) (sym are) callable;
-      tested = λ kept last on. subst (λ l. RetainsTo T first l kept last) are on;
-    }
+  -- a walk at the first leaf
+  pub walk-start : {F : Type 0} (T : F → K → V → Bool → V → F → Type 0) (Q : F → K → V → Type 0) (first : F) (arena : Arena K V P) (at : Option (Leaf K V P))
+      → CallableOnEachPair T Q first (entries_in (pages_of arena)) → ((seen rest : Leaves K V) → IsUpTo arena None seen rest → IsAt arena at seen rest) → IsWalk T Q first (entries_in (pages_of arena)) arena at first
+  walk-start T Q first arena at callable there =
+      let all = entries_of (λ anchor. anchor) arena in record { seen = []; rest = all; there = there [] all (refl, refl); callable = callable; tested = λ kept last on. on }
 
+  module _ {F : Type 0} (T : F → K → V → Bool → V → F → Type 0) (Q : F → K → V → Type 0) (first : F) (entries : List (K × V)) where
     -- at the end
     pub walk-end : (arena : Arena K V P) (at : Option (Leaf K V P)) (f : F) → IsWalk T Q first entries arena at f → at ≡ None → RetainsTo T first entries (entries_in (pages_of arena)) f
     walk-end arena at f walk none =

@@ -58,10 +58,7 @@ fn drop_emptied<K: RadixKey + Drop, V: Drop>(
 }
 
 // The leaf of the page behind one, or of the first page.
-fn page_behind<K: RadixKey, V>(
-    tree: &Tree<K, V>,
-    last: Option<Leaf<K, V>>,
-) -> Option<Leaf<K, V>>
+fn page_behind<K: RadixKey, V>(tree: &Tree<K, V>, last: Option<Leaf<K, V>>) -> Option<Leaf<K, V>>
     requires { IfSome last (λ leaf. IsPlaced (λ anchor. anchor) tree.now.arena leaf) }
     ensures { (seen rest : List (List ℕ × Contents K V)) → IsUpTo tree.now.arena last seen rest →
         IsAt tree.now.arena result seen rest }

@@ -1,21 +1,18 @@
-use Rattle.std.proofs.Common.{[], ap, arith, length, refl, rules}
+use Rattle.std.proofs.Common.{ap, arith, length, rules}
 use Rattle.std.specs.Map.Calls.{CallableOnEachPair}
 use Rattle.std.specs.Prelude.{IfSome}
 use Rattle.art_index.specs.Places.{IsPlaced}
-use Rattle.art_tree.specs.Entries.{entries_of}
 use Rattle.page_map.specs.Pages.{entries_in}
 use Rattle.page_map.specs.Trees.{pages_of}
 use Rattle.page_map.proofs.WalkLemmas.{length-left, passed-same, placed-callable, placed-leaf, up-to-placed, walk-end, walk-fewer, walk-next, walk-start, within-all}
 use Rattle.page_map.proofs.walk.retain_over.Goals as goal
 
 pub pages-init : goal.pages-init
-pages-init g c =
-    let arena = c.args.tree.now.arena in let all = entries_of (λ anchor. anchor) arena in (
-      walk-start g.F.Keeps.step g.F.Keeps.accepts c.args.test.now (entries_in (pages_of arena)) arena c.page_behind-at.result refl c.requires.callable
-          (c.page_behind-at.ensures [] all (refl, refl)),
-      λ head map. map,
-      refl,
-    )
+pages-init g c = (
+  walk-start g.F.Keeps.step g.F.Keeps.accepts c.args.test.now c.args.tree.now.arena c.page_behind-at.result c.requires.callable c.page_behind-at.ensures,
+  λ head map. map,
+  omega arith,
+)
 
 pub retain_at-len-requires : goal.retain_at-len-requires
 retain_at-len-requires g c =
