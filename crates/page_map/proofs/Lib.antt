@@ -13,6 +13,7 @@ pub mod LastLemmas
 pub mod EndLemmas
 pub mod FewerLemmas
 pub mod ManyLemmas
+pub mod FirstPageLemmas
 pub mod ValueLemmas
 pub mod SpotLemmas
 pub mod BoundLemmas

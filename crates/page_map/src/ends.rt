@@ -11,7 +11,7 @@ use art_keys::RadixKey;
 use art_pages::Page;
 
 // The leaf of the first page with entries, if there is one.
-fn first_filled_leaf<K: RadixKey, V>(tree: &Tree<K, V>) -> Option<Leaf<K, V>>
+pub(crate) fn first_filled_leaf<K: RadixKey, V>(tree: &Tree<K, V>) -> Option<Leaf<K, V>>
     ensures { IsFirstFilled tree.now.arena result }
 {
     let mut at = first_page(tree);

@@ -5,7 +5,9 @@ mod debug;
 mod ends;
 mod entry;
 mod fault;
+mod first_page;
 mod gaps;
+mod into_iter;
 mod iter;
 mod keys;
 mod map;
@@ -19,6 +21,7 @@ mod within;
 
 pub use entry::{Entry, EntryOver, OccupiedEntry, OccupiedOver, VacantEntry, VacantOver};
 pub use fault::{ExtendFault, InsertFault, InsertRefusal};
+pub use into_iter::{IntoIter, IntoKeys, IntoValues, TakenEntries, TakenKeys, TakenValues};
 pub use iter::{EntriesOf, HasPages, Iter};
 pub use keys::{Keys, KeysOf, Values, ValuesOf};
 pub use map::{HoldsPages, Leaf, Map, MapOver, Tree};

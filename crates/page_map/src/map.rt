@@ -7,6 +7,7 @@ mod comparing;
 mod iterating;
 mod lending;
 mod many_entries;
+mod moving;
 mod ranges;
 mod reading;
 mod removals;
