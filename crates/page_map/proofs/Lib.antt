@@ -21,3 +21,4 @@ pub mod WithinLemmas
 pub mod SpanLemmas
 pub mod WalkLemmas
 pub mod CalledLemmas
+pub mod KeyBoundLemmas

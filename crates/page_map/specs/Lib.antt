@@ -10,3 +10,4 @@ pub mod EntryCalls
 pub mod Ranges
 pub mod Seats
 pub mod Walk
+pub mod KeyBounds
