@@ -2,3 +2,4 @@ pub mod ListLemmas
 pub mod OrderedKeys
 pub mod WalkLemmas
 pub mod KeyOrders
+pub mod EndKeys

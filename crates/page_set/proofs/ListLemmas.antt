@@ -1,17 +1,19 @@
 -- The keys of entries, where the entries are changed or looked up.
-use Rattle.std.proofs.Common.{◌≡◌, ◌∙◌, ◌+◌, ℕ, Bool, true, false, not, cond, ◌||◌, List, [], ◌∷◌, length, Option, Some, None, is_some, refl, sym, ap, subst, arith}
-use Rattle.std.proofs.lemmas.List.{length-map}
+use Rattle.std.proofs.Common.{◌≡◌, ◌∙◌, ◌+◌, ℕ, Bool, true, false, not, cond, ◌||◌, List, [], ◌∷◌, ◌++◌, length, take, drop, filter, Option, Some, None, is_some, refl, sym, ap, subst, arith}
+use Rattle.std.proofs.lemmas.List.{drop-map, length-map, map-append, take-map}
+use Rattle.std.proofs.lemmas.Option.{same_Some}
 use Rattle.std.specs.BTreeMap.{insert_entry, is_at}
 use Rattle.std.specs.BTreeSet.{insert_key}
 use Rattle.std.specs.List.{list_any}
 use Rattle.std.specs.Map.{keys_of, lookup, lookup_key, remove_entry}
-use Rattle.std.specs.Ordering.{match_ordering}
+use Rattle.std.specs.Ordering.{is_eq, match_ordering}
 use Rattle.std.specs.Bool.{OnFalse}
 use Rattle.std.specs.Option.{IfNone}
 use Rattle.std.specs.Prelude.{find}
 use Rattle.std.specs.Set.{remove_key}
 use Rattle.std.specs.declared.cmp.Ordering.{Ordering}
 use Rattle.std.specs.declared.cmp.Ordering.TheVariants.{Less, Equal, Greater}
+use Rattle.page_map.specs.Ranges.{IsPartOf}
 use Rattle.page_set.specs.KeyLists.{contains_by, get_by}
 
 module _ {K V : Type 0} (cmp : K → K → Ordering) (key : K) (value : V) where
@@ -53,6 +55,17 @@ module _ {K V : Type 0} (test : K → Bool) where
       by_test true later = refl
       by_test false later = ap (λ l. e.0 ∷ l) later
 
+  -- those that pass it
+  keys-filtered : (entries : List (K × V)) → keys_of (filter (λ entry. test entry.0) entries) ≡ filter test (keys_of entries)
+  keys-filtered [] = refl
+  keys-filtered (e ∷ entries) = by_test (test e.0) (keys-filtered entries)
+    where
+      by_test : (t : Bool) → keys_of (filter (λ entry. test entry.0) entries) ≡ filter test (keys_of entries)
+          → keys_of (cond t (e ∷ filter (λ entry. test entry.0) entries) (filter (λ entry. test entry.0) entries))
+          ≡ cond t (e.0 ∷ filter test (keys_of entries)) (filter test (keys_of entries))
+      by_test true later = ap (λ l. e.0 ∷ l) later
+      by_test false later = later
+
 -- whether a key is found is whether there is one
 pub some-found : {K : Type 0} (test : K → Bool) (keys : List K) → is_some (find test keys) ≡ list_any test keys
 some-found test [] = refl
@@ -61,6 +74,16 @@ some-found {K} test (key ∷ keys) = by_test (test key) (some-found test keys)
     by_test : (t : Bool) → is_some (find test keys) ≡ list_any test keys → is_some (cond t (Some key) (find test keys)) ≡ (t || list_any test keys)
     by_test true later = refl
     by_test false later = later
+
+-- the key that is found compares `Equal`
+pub found-equal : {K : Type 0} (compare : K → Ordering) (keys : List K) (found : K) → Some found ≡ get_by compare keys → compare found ≡ Equal
+found-equal compare [] found is = absurd (cc)
+found-equal compare (key ∷ keys) found is = by_order (compare key) refl is (found-equal compare keys found)
+  where
+    by_order : (o : Ordering) → compare key ≡ o → Some found ≡ cond (is_eq o) (Some key) (get_by compare keys) → (Some found ≡ get_by compare keys → compare found ≡ Equal) → compare found ≡ Equal
+    by_order Less at is later = later is
+    by_order Equal at is later = ap compare (same_Some found key is) ∙ at
+    by_order Greater at is later = later is
 
 turned : (s t : Bool) → s ≡ not t → t ≡ not s
 turned s true is = ap not (sym is)
@@ -89,6 +112,20 @@ module _ {K V : Type 0} (entries : List (K × V)) (keys : List K) (is : keys_of 
 
   pub loses-keys : (new : List (K × V)) (n : ℕ) → length new + n ≡ length entries → length (keys_of new) + n ≡ length keys
   loses-keys new n so = omega (arith, counts-keys, length-map new (λ (entry : K × V). entry.0), so)
+
+  pub filters-keys : (test : K → Bool) (part : List (K × V)) → part ≡ filter (λ entry. test entry.0) entries → keys_of part ≡ filter test keys
+  filters-keys test part so = ap keys_of so ∙ keys-filtered test entries ∙ ap (filter test) is
+
+  pub part-of-keys : (part : List (K × V)) → IsPartOf entries part → IsPartOf keys (keys_of part)
+  part-of-keys part run = (
+    run.0,
+    run.1,
+    ap keys_of run.2 ∙ sym (take-map (λ entry. entry.0) run.1 (drop run.0 entries)) ∙ ap (take run.1) (sym (drop-map (λ entry. entry.0) run.0 entries))
+        ∙ ap (λ l. take run.1 (drop run.0 l)) is,
+  )
+
+  pub ends-with-key : (rest : List (K × V)) (last : K × V) → entries ≡ rest ++ last ∷ [] → keys ≡ keys_of rest ++ last.0 ∷ []
+  ends-with-key rest last so = sym is ∙ ap keys_of so ∙ map-append (λ entry. entry.0) rest (last ∷ [])
 
 -- what holds where a test fails
 pub on-false : {P : Type 0} (b : Bool) → (b ≡ false → P) → OnFalse b P

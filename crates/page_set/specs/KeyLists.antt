@@ -1,10 +1,14 @@
 -- A set as the list of its keys, in ascending order, in the words that std has for a `BTreeSet`.
-use Rattle.std.specs.Prelude.{Bool, true, false, not, List, Option, filter, find, fold}
+use Rattle.std.specs.Prelude.{◌≡◌, Bool, true, false, ◌&&◌, not, List, Option, filter, find, fold, IsTrue}
 use Rattle.std.specs.BTreeMap.{is_at}
+use Rattle.std.specs.BTreeMap.Range.{range_contains}
 use Rattle.std.specs.BTreeSet.{insert_key}
 use Rattle.std.specs.List.{list_any}
+use Rattle.std.specs.Ordering.{is_gt, is_lt}
 use Rattle.std.specs.Set.{sorted_merge}
 use Rattle.std.specs.declared.cmp.Ordering.{Ordering}
+use Rattle.std.specs.declared.ops.Bound.{Bound}
+use Rattle.page_map.specs.Ranges.{is_from, is_past}
 
 module _ {K : Type 0} where
   -- whether a query compares `Equal` to a key
@@ -35,3 +39,19 @@ module _ {K : Type 0} where
     -- the keys that exactly one of two lists has, in order
     abbrev pub symmetric_difference : List K → List K → List K
     symmetric_difference keys others = sorted_merge cmp false keys others
+
+    -- the keys between two bounds
+    abbrev pub keys_between : Bound K → Bound K → List K → List K
+    keys_between start end keys = filter (range_contains cmp start end) keys
+
+    -- no key that is there is below this one
+    abbrev pub IsLowerBound : List K → K → Type 0
+    IsLowerBound keys key = (other : K) → IsTrue (contains_by (cmp other) keys) → is_gt (cmp key other) ≡ false
+
+    -- no key that is there is above this one
+    abbrev pub IsUpperBound : List K → K → Type 0
+    IsUpperBound keys key = (other : K) → IsTrue (contains_by (cmp other) keys) → is_lt (cmp key other) ≡ false
+
+-- the keys within two bounds of queries, of which this says how they compare to keys
+abbrev pub keys_within : {Q K : Type 0} → (Q → K → Ordering) → Bound Q → Bound Q → List K → List K
+keys_within compare start end keys = filter (λ key. is_from compare start key && not (is_past compare end key)) keys

@@ -2,7 +2,9 @@
 ghost use Rattle.std.specs.Prelude.{◌≡◌, ◌↔◌, [], length, IsTrue};
 ghost use Rattle.std.specs.List.Sorted.{IsStrictlySortedBy};
 
+mod end_keys;
 mod key_changes;
+mod key_ranges;
 mod many_keys;
 mod merging;
 mod reading_keys;

@@ -1,10 +1,11 @@
 //! Keys added and taken out.
-ghost use Rattle.std.specs.Prelude.{◌≡◌, ◌+◌, ◌≤◌, ◌^◌, ◌↔◌, ◌∷◌, [], false, not, length, is_some, if◌then◌else◌, IfErr, IfNone, IfOk, IfSome, OnErr, OnOk};
+ghost use Rattle.std.specs.Prelude.{◌≡◌, ◌+◌, ◌≤◌, ◌^◌, ◌↔◌, [], false, not, length, is_some, if◌then◌else◌, IfErr, IfNone, IfOk, IfSome, OnErr, OnOk};
 ghost use Rattle.std.specs.Bool.{OnFalse};
 ghost use Rattle.std.specs.BTreeMap.{is_at};
 ghost use Rattle.std.specs.BTreeSet.{insert_key};
 ghost use Rattle.std.specs.List.Sorted.{IsStrictlySortedBy};
 ghost use Rattle.std.specs.Set.{remove_key};
+ghost use Rattle.std.specs.declared.cmp.Ordering.TheVariants.{Equal};
 ghost use Rattle.page_map.specs.declared.fault.InsertRefusal.TheVariants.{KeyTooLong};
 ghost use Rattle.page_set.specs.KeyLists.{contains_by, get_by};
 
@@ -44,6 +45,8 @@ impl<K: RadixKey> Set<K> {
     /// Takes out the key of a query, if the set has it. It is never refused.
     pub fn take<Q: RadixQuery<K>>(&mut self, key: Q) -> Option<K>
         ensures key { result ≡ get_by (Q.compare key) self.old }
+        ensures same_key { IfSome result (λ found. Q.compare key found ≡ Equal) }
+        ensures variant { is_some result ≡ contains_by (Q.compare key) self.old }
         ensures keys { self.new ≡ remove_key (is_at (Q.compare key)) self.old }
         ensures unchanged { IfNone result (self.new ≡ self.old) }
         ensures len { length self.new + (if is_some result then 1 else 0) ≡ length self.old }
@@ -76,18 +79,5 @@ impl<K: RadixKey> Set<K> {
         ensures { self.new ≡ [] }
     {
         self.entries.clear();
-    }
-
-    /// Takes out the least key, if there is one. It is never refused.
-    pub fn pop_first(&mut self) -> Option<K>
-        ensures removal { IfSome result (λ key. self.old ≡ key ∷ self.new) }
-        ensures none { IfNone result (self.old ≡ []) }
-        ensures unchanged { IfNone result (self.new ≡ self.old) }
-        ensures ordered { IsStrictlySortedBy K.cmp self.new }
-    {
-        match self.entries.pop_first() {
-            Some((key, _)) => Some(key),
-            None => None,
-        }
     }
 }

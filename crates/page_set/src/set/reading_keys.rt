@@ -1,8 +1,10 @@
 //! Keys looked up, and all of them in order.
-ghost use Rattle.std.specs.Prelude.{◌≡◌, ◌-◌, length, slice_get};
+ghost use Rattle.std.specs.Prelude.{All, ◌≡◌, ◌-◌, [], false, length, slice_get, is_some, IfNone, IfSome, IsTrue};
 ghost use Rattle.std.specs.Option.{option_copied};
+ghost use Rattle.std.specs.Ordering.{is_gt, is_lt};
 ghost use Rattle.std.specs.List.Sorted.{IsStrictlySortedBy};
-ghost use Rattle.page_set.specs.KeyLists.{contains_by, get_by};
+ghost use Rattle.std.specs.declared.cmp.Ordering.TheVariants.{Equal};
+ghost use Rattle.page_set.specs.KeyLists.{IsLowerBound, IsUpperBound, contains_by, get_by};
 
 use super::Set;
 use art_keys::{RadixKey, RadixQuery};
@@ -18,7 +20,9 @@ impl<K: RadixKey> Set<K> {
 
     /// The key of the set that a query asks for.
     pub fn get<Q: RadixQuery<K>>(&self, key: Q) -> Option<&K>
-        ensures { option_copied result ≡ get_by (Q.compare key) self.now }
+        ensures key { option_copied result ≡ get_by (Q.compare key) self.now }
+        ensures same_key { IfSome result (λ found. Q.compare key found.now ≡ Equal) }
+        ensures variant { is_some result ≡ contains_by (Q.compare key) self.now }
     {
         match self.entries.get_key_value(key) {
             Some((key, _)) => Some(key),
@@ -29,6 +33,7 @@ impl<K: RadixKey> Set<K> {
     /// The keys, in ascending order, and from the back in descending order.
     pub fn iter(&self) -> Keys<'_, K, ()>
         ensures keys { result ≡ self.now }
+        ensures found { All (λ key. IsTrue (contains_by (K.cmp key) self.now)) self.now }
         ensures ordered { IsStrictlySortedBy K.cmp self.now }
     {
         // So that the keys are known to be in order.
@@ -39,6 +44,11 @@ impl<K: RadixKey> Set<K> {
     /// The least key.
     pub fn first(&self) -> Option<&K>
         ensures first { option_copied result ≡ slice_get self.now 0 }
+        ensures member { IfSome result (λ key. IsTrue (contains_by (K.cmp key.now) self.now)) }
+        ensures least { IfSome result (λ key. IsLowerBound K.cmp self.now key.now) }
+        ensures all_from { IfSome result
+            (λ key. All (λ other. is_gt (K.cmp key.now other) ≡ false) self.now) }
+        ensures none { IfNone result (self.now ≡ []) }
         ensures ordered { IsStrictlySortedBy K.cmp self.now }
     {
         self.iter().next()
@@ -47,6 +57,11 @@ impl<K: RadixKey> Set<K> {
     /// The greatest key.
     pub fn last(&self) -> Option<&K>
         ensures last { option_copied result ≡ slice_get self.now (length self.now - 1) }
+        ensures member { IfSome result (λ key. IsTrue (contains_by (K.cmp key.now) self.now)) }
+        ensures greatest { IfSome result (λ key. IsUpperBound K.cmp self.now key.now) }
+        ensures all_up_to { IfSome result
+            (λ key. All (λ other. is_lt (K.cmp key.now other) ≡ false) self.now) }
+        ensures none { IfNone result (self.now ≡ []) }
         ensures ordered { IsStrictlySortedBy K.cmp self.now }
     {
         self.iter().next_back()
