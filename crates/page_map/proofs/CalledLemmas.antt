@@ -1,7 +1,7 @@
 -- A closure that is called at entries in turn, as a test of them.
 use denote.Param.Members.{Mut}
 use denote.Ref.{Bor, MutBor}
-use Rattle.std.proofs.Common.{◌≡◌, ◌∙◌, Bool, true, cond, List, [], ◌∷◌, map, ap}
+use Rattle.std.proofs.Common.{◌≡◌, ◌∙◌, Bool, true, cond, List, [], ◌∷◌, map, ap, subst}
 use Rattle.std.specs.List.{FoldsTo}
 use Rattle.std.specs.Map.Calls.{CallableOnEachPair, RetainsPairs, SomeCallAtPair}
 use Rattle.art_pages.specs.Retaining.{CallableInTurn, ChangesInTurn, ChangesValue, TakesValue}
@@ -27,3 +27,14 @@ module _ {F K V : Type 0} (g : Mut F (Bor K × (MutBor V × Unit {0})) (Unit {0}
   pub same-keys : (f : F) (old new : List (K × V)) → ChangesInTurn g f old new → map (λ (e : K × V). e.0) new ≡ map (λ (e : K × V). e.0) old
   same-keys f [] new none = ap (map (λ (e : K × V). e.0)) none
   same-keys f (entry ∷ entries) new (value, f', rest, changes, later, is) = ap (map (λ (e : K × V). e.0)) is ∙ ap (λ l. entry.0 ∷ l) (same-keys f' entries rest later)
+
+-- where each call leaves what a function makes of key and value, and the closure as it was, it is as if that function had been
+-- applied to each entry
+pub values_same : {F K V : Type 0} (g : Mut F (Bor K × (MutBor V × Unit {0})) (Unit {0} × (MutBor V × Unit {0}))) (change : K → V → V) (f : F)
+    → ((key : K) (value now : V) (f' : F) → ChangesValue g f key value now f' → (now ≡ change key value) × (f' ≡ f))
+    → (old new : List (K × V)) → ChangesInTurn g f old new → new ≡ map (λ (e : K × V). (e.0, change e.0 e.1)) old
+values_same g change f same [] new none = none
+values_same g change f same (entry ∷ entries) new (value, f', rest, called, onwards, is) =
+    let one = same entry.0 entry.1 value f' called in
+    let later = values_same g change f same entries rest (subst (λ state. ChangesInTurn g state entries rest) one.1 onwards) in
+    is ∙ ap (λ now. (entry.0, now) ∷ rest) one.0 ∙ ap (λ all. (entry.0, change entry.0 entry.1) ∷ all) later
