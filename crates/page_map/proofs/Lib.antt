@@ -14,6 +14,7 @@ pub mod EndLemmas
 pub mod FewerLemmas
 pub mod ManyLemmas
 pub mod FirstPageLemmas
+pub mod MovingLemmas
 pub mod ValueLemmas
 pub mod SpotLemmas
 pub mod BoundLemmas

@@ -1,10 +1,15 @@
-//! Entries moved out of a map one by one, by value.
-ghost use Rattle.std.specs.Prelude.{◌≡◌, ◌++◌, [], map};
+//! Entries moved: out of a map one by one, by value, and from one map into another.
+ghost use Rattle.std.specs.Prelude.{◌≡◌, ◌∷◌, ◌++◌, [], List, None, map, IfErr, OnErr, OnOk};
+ghost use Rattle.art_pages.specs.Entries.{IsOrdered, get_by};
+ghost use Rattle.page_map.specs.Inserts.{insert_all};
+ghost use Rattle.page_map.specs.declared.fault.InsertRefusal.TheVariants.{OutOfMemory};
 
 use super::Map;
+use crate::fault::InsertFault;
 use crate::first_page::take_page;
 use crate::into_iter::{IntoIter, IntoKeys, IntoValues, entries_taken, keys_taken, values_taken};
 use art_keys::RadixKey;
+use std::mem;
 
 impl<K: RadixKey, V> Map<K, V> {
     // Takes the entries of the first page that has any out of the map. Where there is none, it is empty.
@@ -33,6 +38,39 @@ impl<K: RadixKey + Drop, V: Drop> Map<K, V> {
         ensures { result ≡ map (λ entry. entry.1) self }
     {
         values_taken(self.into_iter())
+    }
+
+    /// Moves all entries of another map into this one, each as [`insert`](Self::insert) does: a key that is
+    /// there stays, and takes the value of the other map. The other map is left empty.
+    ///
+    /// Stops where memory is refused, and returns the entry that had no room: those before it are in this
+    /// map, and those behind it still in the other. Costs an insert and a [`pop_first`](Self::pop_first) for
+    /// each entry that moves, and nothing where this map is empty.
+    pub fn append(&mut self, other: &mut Self) -> Result<(), InsertFault<K, V>>
+        ensures all { OnOk result (self.new ≡ insert_all K.cmp self.old other.old) }
+        ensures emptied { OnOk result (other.new ≡ []) }
+        ensures stopped { IfErr result (λ fault. (moved : List (K × V))
+            × (other.old ≡ moved ++ (fault.key, fault.value) ∷ other.new)
+            × (self.new ≡ insert_all K.cmp self.old moved)) }
+        ensures refusal { IfErr result (λ fault. fault.refusal ≡ OutOfMemory) }
+        ensures absent { IfErr result (λ fault. get_by (K.cmp fault.key) self.new ≡ None) }
+        ensures ordered { IsOrdered K.cmp self.new }
+        ensures other_ordered { IsOrdered K.cmp other.new }
+    {
+        // So that the entries are known to be in order, with keys that are not too long.
+        let _len = &self.len;
+        let _other_len = &other.len;
+        if self.is_empty() {
+            mem::swap(self, other);
+            return Ok(());
+        }
+        'each: while let Some((key, value)) = other.pop_first() {
+            match self.insert(key, value) {
+                Ok(_) => {}
+                Err(fault) => return Err(fault),
+            }
+        }
+        Ok(())
     }
 }
 
