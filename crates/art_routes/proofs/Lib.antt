@@ -1,6 +1,7 @@
 pub mod BitLemmas
 pub mod ByteLemmas
 pub mod CallLaws
+pub mod ChangeLemmas
 pub mod ChildLemmas
 pub mod CoverLemmas
 pub mod CoveredLemmas

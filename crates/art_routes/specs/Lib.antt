@@ -9,3 +9,5 @@ pub mod Ways
 pub mod Readings
 pub mod Lending
 pub mod Texts
+pub mod Changes
+pub mod Differences

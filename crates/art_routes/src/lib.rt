@@ -6,6 +6,7 @@
 mod address;
 mod children;
 mod covering;
+mod difference;
 mod fault;
 mod holds_routes;
 mod network;
@@ -19,6 +20,7 @@ mod way;
 
 pub use children::Children;
 pub use covering::Covering;
+pub use difference::{Change, Differences};
 pub use fault::{NetworkFault, NetworkTextFault};
 pub use network::Network;
 pub use reader::RouteReader;
@@ -31,6 +33,7 @@ pub use table::RouteTable;
 pub mod parts {
     pub use crate::children::ChildrenOver;
     pub use crate::covering::{CoveringOver, ShowsRoutes};
+    pub use crate::difference::{DifferencesOver, PeekedRoutes};
     pub use crate::holds_routes::HoldsRoutes;
     pub use crate::reader::{ReaderOver, ReadsRoutes};
     pub use crate::route_key::RouteKey;
