@@ -6,6 +6,7 @@ pub mod ChildLemmas
 pub mod CoverLemmas
 pub mod CoveredLemmas
 pub mod CoveringLemmas
+pub mod FreeLemmas
 pub mod KeyBytes
 pub mod MatchLemmas
 pub mod OrderLemmas

@@ -147,7 +147,7 @@ pub covers-itself : (network : Block) → covers network network ≡ true
 covers-itself network = over-is network network.address network.length (record { in_it = record { widths = refl; same = refl }; shorter = omega arith })
 
 -- fewer first bits of an address, by more of them
-fewer_bits : (address : Address) (n l : ℕ) → n ≤ l → l ≤ address.width → first_bits address n ≡ first_bits address l / 2 ^ (l - n)
+pub fewer_bits : (address : Address) (n l : ℕ) → n ≤ l → l ≤ address.width → first_bits address n ≡ first_bits address l / 2 ^ (l - n)
 fewer_bits address n l less most =
     let sum : address.width - n ≡ address.width - l + (l - n) = omega (arith, less, most) in
     ap (λ e. address.bits / 2 ^ e) sum ∙ sym (shr-shr address.bits (address.width - l) (l - n))

@@ -11,3 +11,5 @@ pub mod Lending
 pub mod Texts
 pub mod Changes
 pub mod Differences
+pub mod FreeNetworks
+pub mod FreeWalks
