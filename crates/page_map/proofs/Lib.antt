@@ -23,3 +23,4 @@ pub mod SpanLemmas
 pub mod WalkLemmas
 pub mod CalledLemmas
 pub mod KeyBoundLemmas
+pub mod InsideLemmas

@@ -107,28 +107,29 @@ module _ {K V : Type 0} (is_key : K → Type 0) (encoded : K → List ℕ) (comp
       above = above-head above;
     }
 
-    -- the page under the last anchor that is not above it
-    module _ (left : List (List ℕ × List (K × V))) (page : List ℕ × List (K × V)) (right : List (List ℕ × List (K × V))) (is : pages ≡ left ++ page ∷ right)
-        (low : text_order page.0 x ≢ Greater) (above : AnchorsAbove x right) where
+    -- a page of the tree
+    module _ (left : List (List ℕ × List (K × V))) (page : List ℕ × List (K × V)) (right : List (List ℕ × List (K × V))) (is : pages ≡ left ++ page ∷ right) where
       whole : map_entries head pages ≡ (head ++ entries_in left) ++ (page.1 ++ entries_in right)
       whole = ap (λ l. head ++ entries_in l) is ∙ ap (λ l. head ++ l) (entries_in-append left (page ∷ right)) ∙ sym (append_assoc head (entries_in left) (page.1 ++ entries_in right))
 
-      keys : AreKeys is_key encoded ((head ++ entries_in left) ++ (page.1 ++ entries_in right))
+      pub keys : AreKeys is_key encoded ((head ++ entries_in left) ++ (page.1 ++ entries_in right))
       keys = subst (AreKeys is_key encoded) whole map.keys
 
-      parted : AreParted encoded head (left ++ page ∷ right)
+      pub parted : AreParted encoded head (left ++ page ∷ right)
       parted = subst (AreParted encoded head) is map.parted
 
-      pub below-page : AllBelow compare (head ++ entries_in left)
-      below-page =
-          below-query page.0 low (head ++ entries_in left)
-          (All-left (λ entry. IsIndexable is_key encoded entry.0) (head ++ entries_in left) (page.1 ++ entries_in right) keys) (parted-at encoded head left page right parted).0
+      -- under the last anchor that is not above it
+      module _ (low : text_order page.0 x ≢ Greater) (above : AnchorsAbove x right) where
+        pub below-page : AllBelow compare (head ++ entries_in left)
+        below-page =
+            below-query page.0 low (head ++ entries_in left)
+            (All-left (λ entry. IsIndexable is_key encoded entry.0) (head ++ entries_in left) (page.1 ++ entries_in right) keys) (parted-at encoded head left page right parted).0
 
-      pub above-page : AllAbove compare (entries_in right)
-      above-page =
-          let later = All-right (λ entry. IsIndexable is_key encoded entry.0) (head ++ entries_in left) (page.1 ++ entries_in right) keys in
-          above-query (entries_in right) (All-right (λ entry. IsIndexable is_key encoded entry.0) page.1 (entries_in right) later)
-          (above-pages encoded ((head ++ entries_in left) ++ page.1) right x (parted-behind encoded head left page right parted) above)
+        pub above-page : AllAbove compare (entries_in right)
+        above-page =
+            let later = All-right (λ entry. IsIndexable is_key encoded entry.0) (head ++ entries_in left) (page.1 ++ entries_in right) keys in
+            above-query (entries_in right) (All-right (λ entry. IsIndexable is_key encoded entry.0) page.1 (entries_in right) later)
+            (above-pages encoded ((head ++ entries_in left) ++ page.1) right x (parted-behind encoded head left page right parted) above)
 
-      pub page-of-query : IsPageOf compare page.1 (map_entries head pages)
-      page-of-query = record { before = head ++ entries_in left; after = entries_in right; is = whole; below = below-page; above = above-page }
+        pub page-of-query : IsPageOf compare page.1 (map_entries head pages)
+        page-of-query = record { before = head ++ entries_in left; after = entries_in right; is = whole; below = below-page; above = above-page }

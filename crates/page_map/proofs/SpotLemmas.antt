@@ -15,7 +15,7 @@ use Rattle.art_pages.specs.Contents.{Contents, set_value_at}
 use Rattle.art_pages.specs.Entries.{IsPlaceOf, get_by}
 use Rattle.art_pages.proofs.FoundLemmas.{get_by-found, get_by-gap}
 use Rattle.art_pages.proofs.MiddleLemmas.{get_by-middle}
-use Rattle.page_map.specs.Pages.{entries_in, map_entries, AnchorsAbove, IsMap}
+use Rattle.page_map.specs.Pages.{entries_in, map_entries, AnchorsAbove, IsMap, IsPageOf}
 use Rattle.page_map.specs.Spots.{IsSpotInHead, IsSpotInLeaf, IsSpot}
 use Rattle.page_map.specs.Trees.{page_of, pages_in, pages_of}
 use Rattle.page_map.proofs.PartLemmas.{AgreesBy, above-head, below-page, above-page}
@@ -59,6 +59,15 @@ module _ {K V : Type 0} (compare : K → Ordering) (x : List ℕ) (head : List (
     same-in-head : (place : Result ℕ ℕ) → IsSpotInHead compare x head pages place → get_by compare (map_entries head pages) ≡ get_by compare head
     same-in-head place spot = get_by-middle compare [] head (entries_in pages) (All-nil (λ entry. compare entry.0 ≡ Greater)) spot.behind
 
+    pub head-page : (place : Result ℕ ℕ) → IsSpotInHead compare x head pages place → IsPageOf compare head (map_entries head pages)
+    head-page place spot = record {
+      before = [];
+      after = entries_in pages;
+      is = refl;
+      below = All-nil (λ entry. compare entry.0 ≡ Greater);
+      above = spot.behind;
+    }
+
     pub none-in-head : (place : ℕ) → IsSpotInHead compare x head pages (Err place) → get_by compare (map_entries head pages) ≡ None
     none-in-head place spot = same-in-head (Err place) spot ∙ get_by-gap compare head place spot.at
 
@@ -75,6 +84,15 @@ module _ {K V : Type 0} (compare : K → Ordering) (x : List ℕ) (head : List (
     whole here =
         entries-beside head (pages_of arena) (pages here.left) (page_of here.entry) (pages here.right) (pages-around arena leaf here)
         (pages_of arena) here.entry.1.entries (pages-around arena leaf here)
+
+    pub leaf-page : (place : Result ℕ ℕ) → (spot : IsSpotInLeaf compare x head arena leaf place) → IsPageOf compare spot.here.entry.1.entries (map_entries head (pages_of arena))
+    leaf-page place spot = record {
+      before = head ++ entries_in (pages spot.here.left);
+      after = entries_in (pages spot.here.right);
+      is = whole spot.here;
+      below = spot.before;
+      above = spot.behind;
+    }
 
     same-in-leaf : (place : Result ℕ ℕ) → (spot : IsSpotInLeaf compare x head arena leaf place) → get_by compare (map_entries head (pages_of arena)) ≡ get_by compare spot.here.entry.1.entries
     same-in-leaf place spot =

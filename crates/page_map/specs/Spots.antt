@@ -1,5 +1,5 @@
 -- Where the entry of a query is in a map by pages, or where it belongs.
-use Rattle.std.specs.Prelude.{◌≡◌, ◌≢◌, ℕ, List, [], ◌++◌, ◌⊎◌, map, Option, Some, None, Result, IsSome}
+use Rattle.std.specs.Prelude.{◌≡◌, ◌≢◌, ◌<◌, ℕ, List, [], ◌++◌, ◌⊎◌, map, Option, Some, None, Ok, Err, Result, IsSome}
 use Rattle.std.specs.BTreeMap.{insert_entry}
 use Rattle.std.specs.declared.cmp.Ordering.{Ordering}
 use Rattle.std.specs.declared.cmp.Ordering.TheVariants.{Greater}
@@ -10,6 +10,11 @@ use Rattle.art_pages.specs.Contents.{Contents}
 use Rattle.art_pages.specs.Entries.{AllAbove, AllBelow, IsPlaceOf, get_by}
 use Rattle.page_map.specs.Pages.{entries_in, AnchorsAbove}
 use Rattle.page_map.specs.Trees.{page_of, pages_of}
+
+-- a place among so many entries is that of an entry, or lies between two
+abbrev pub IsInsideOf : Result ℕ ℕ → ℕ → Type 0
+IsInsideOf (Ok place) len = Unit {0}
+IsInsideOf (Err place) len = (0 < place) × (place < len)
 
 module _ {K V : Type 0} (compare : K → Ordering) (x : List ℕ) (head : List (K × V)) where
   -- the query, whose encoding is a text, belongs to the first page, there at this index; these are the other pages

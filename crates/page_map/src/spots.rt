@@ -1,16 +1,16 @@
 //! Where the entry of a key is, or where it belongs, and an entry put there.
-ghost use Rattle.std.specs.Prelude.{◌≡◌, ◌<◌, ◌≤◌, ◌^◌, ◌↔◌, None, Ok, Err, length, IfOk, IfErr, OnOk, OnErr};
+ghost use Rattle.std.specs.Prelude.{◌≡◌, ◌<◌, ◌≤◌, ◌^◌, ◌↔◌, None, Ok, Err, length, IfOk, IfErr, IfSome, IsTrue, OnOk, OnErr};
 ghost use Rattle.std.specs.BTreeMap.{insert_entry};
 ghost use Rattle.art_pages.specs.Entries.{IsIndexable, IsPlaceOf, get_by};
 ghost use Rattle.page_map.specs.Pages.{map_entries, IsMap};
-ghost use Rattle.page_map.specs.Spots.{IsEntered, IsSpot, IsSpotOver};
+ghost use Rattle.page_map.specs.Spots.{IsEntered, IsInsideOf, IsSpot, IsSpotInLeaf, IsSpotOver};
 ghost use Rattle.page_map.specs.Trees.{pages_in, pages_of};
 ghost use Rattle.page_map.specs.declared.fault.InsertRefusal.TheVariants.{KeyTooLong, OutOfMemory};
 
 use crate::fault::{InsertFault, InsertRefusal, TOO_LONG, refuse};
 use crate::map::{Leaf, Tree};
 use crate::room::make_room;
-use art_index::{floor, page, page_mut};
+use art_index::{floor, likely_floor, page, page_mut};
 use art_keys::{RadixKey, RadixQuery};
 use art_pages::Page;
 use std::alloc::Global;
@@ -24,8 +24,8 @@ pub(crate) struct Spot<L> {
     pub(crate) more: usize,
 }
 
-// The page where a query belongs, and its index there.
-fn find_over<K: RadixKey, V, Q: RadixQuery<K>>(
+// The page where a query belongs, by the anchors, and its index there.
+fn find_by_anchors<K: RadixKey, V, Q: RadixQuery<K>>(
     head: &Page<K, V>,
     tree: &Tree<K, V>,
     query: Q,
@@ -38,6 +38,56 @@ fn find_over<K: RadixKey, V, Q: RadixQuery<K>>(
     match floor(tree, query) {
         Some(leaf) => (Some(leaf), page(tree, leaf).1.search(query)),
         None => (None, head.search(query)),
+    }
+}
+
+// The page that a query likely belongs to, and its index there, where the page shows that it does: it has
+// the entry, or two entries beside the query.
+#[inline]
+fn find_inside<K: RadixKey, V, Q: RadixQuery<K>>(
+    _head: &Page<K, V>,
+    tree: &Tree<K, V>,
+    query: Q,
+) -> Option<(Leaf<K, V>, Result<usize, usize>)>
+    requires { IsMap K.order K.is_key K.encoded _head.now.entries (pages_of tree.now.arena) }
+    ensures { IfSome result (λ found.
+        IsSpotInLeaf (Q.compare query) (Q.encoded query) _head.now.entries tree.now.arena found.0 found.1) }
+{
+    // So that the laws of queries are known of it.
+    let _len = query.encoded_len();
+    let leaf = likely_floor(tree, query)?;
+    let page = page(tree, leaf).1;
+    let place = page.search(query);
+    if is_inside(place, page.len()) {
+        Some((leaf, place))
+    } else {
+        None
+    }
+}
+
+// Whether an index of so many entries has one, or lies between two.
+#[inline]
+fn is_inside(place: Result<usize, usize>, len: usize) -> bool
+    ensures { IsTrue result → IsInsideOf place len }
+{
+    match place {
+        Ok(_) => true,
+        Err(place) => 0 < place && place < len,
+    }
+}
+
+/// The page of a map with a tree where a query belongs, and its index there.
+pub(crate) fn find_over<K: RadixKey, V, Q: RadixQuery<K>>(
+    head: &Page<K, V>,
+    tree: &Tree<K, V>,
+    query: Q,
+) -> (Option<Leaf<K, V>>, Result<usize, usize>)
+    requires { IsMap K.order K.is_key K.encoded head.now.entries (pages_of tree.now.arena) }
+    ensures { IsSpotOver (Q.compare query) (Q.encoded query) head.now.entries tree.now.arena result.0 result.1 }
+{
+    match find_inside(head, tree, query) {
+        Some((leaf, place)) => (Some(leaf), place),
+        None => find_by_anchors(head, tree, query),
     }
 }
 

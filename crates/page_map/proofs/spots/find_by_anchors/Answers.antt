@@ -3,7 +3,7 @@ use Rattle.art_pages.specs.Entries.{IsPlaceOf}
 use Rattle.page_map.specs.Trees.{pages_of}
 use Rattle.page_map.proofs.SpotLemmas.{spot-in-head, spot-in-leaf}
 use Rattle.page_map.proofs.TreeLemmas.{anchors-above}
-use Rattle.page_map.proofs.spots.find_over.Goals as goal
+use Rattle.page_map.proofs.spots.find_by_anchors.Goals as goal
 
 pub returns-in-Some : goal.returns-in-Some
 returns-in-Some g c =
