@@ -1,17 +1,49 @@
 //! An entry put into the page where it belongs.
 ghost use Rattle.std.specs.Prelude.{◌≡◌, ◌<◌, None, IfOk, IfErr, OnOk, OnErr};
 ghost use Rattle.std.specs.BTreeMap.{insert_entry};
-ghost use Rattle.art_pages.specs.Entries.{IsIndexable, get_by};
+ghost use Rattle.art_pages.specs.Entries.{IsIndexable, IsPlaceOf, get_by};
 ghost use Rattle.page_map.specs.Pages.{map_entries, IsMap};
 ghost use Rattle.page_map.specs.Trees.{pages_in, pages_of};
 
 use crate::map::Tree;
-use art_index::{floor, page_mut};
+use crate::spots::find_over;
+use art_index::page_mut;
 use art_keys::RadixKey;
 use art_pages::Page;
 
-// Puts an entry into a page with spare capacity and fewer entries than `most`, or replaces the value of its
-// key. Else the entry comes back.
+// Puts an entry at its place in a page with spare capacity and fewer entries than `most`, or replaces the
+// value of its key. Else the entry comes back.
+fn put_at<K: RadixKey + Drop, V>(
+    page: &mut Page<K, V>,
+    found: Result<usize, usize>,
+    most: usize,
+    key: K,
+    value: V,
+) -> Result<Option<V>, (K, V)>
+    requires key { IsIndexable K.is_key K.encoded key }
+    requires place { IsPlaceOf (K.cmp key) page.old.entries found }
+    ensures old { IfOk result (λ old. old ≡ get_by (K.cmp key) page.old.entries) }
+    ensures entries { OnOk result (page.new.entries ≡ insert_entry K.cmp page.old.entries key value) }
+    ensures most { IfOk result (λ old. old ≡ None → 0 < most) }
+    ensures returned { IfErr result (λ back. back ≡ (key, value)) }
+    ensures absent { OnErr result (get_by (K.cmp key) page.old.entries ≡ None) }
+    ensures same { OnErr result (page.new.entries ≡ page.old.entries) }
+{
+    match found {
+        Ok(place) => Ok(Some(page.replace_value(place, value))),
+        Err(place) => {
+            if !page.has_room() || most <= page.len() {
+                return Err((key, value));
+            }
+            match page.insert_at(place, key, value) {
+                Ok(()) => Ok(None),
+                Err(refused) => Err(refused.value),
+            }
+        }
+    }
+}
+
+// The same in the only page of a map.
 fn put_in<K: RadixKey + Drop, V>(
     page: &mut Page<K, V>,
     most: usize,
@@ -26,18 +58,8 @@ fn put_in<K: RadixKey + Drop, V>(
     ensures absent { OnErr result (get_by (K.cmp key) page.old.entries ≡ None) }
     ensures same { OnErr result (page.new.entries ≡ page.old.entries) }
 {
-    match page.search(&key) {
-        Ok(place) => Ok(Some(page.replace_value(place, value))),
-        Err(place) => {
-            if !page.has_room() || most <= page.len() {
-                return Err((key, value));
-            }
-            match page.insert_at(place, key, value) {
-                Ok(()) => Ok(None),
-                Err(refused) => Err(refused.value),
-            }
-        }
-    }
+    let found = page.search(&key);
+    put_at(page, found, most, key, value)
 }
 
 // The same in the page of a map where the entry belongs.
@@ -62,9 +84,10 @@ fn put_over<K: RadixKey + Drop, V>(
     ensures same { OnErr result (map_entries head.new.entries (pages_of tree.new.arena)
         ≡ map_entries head.old.entries (pages_of tree.old.arena)) }
 {
-    match floor(tree, &key) {
-        Some(leaf) => put_in(page_mut(tree, leaf), most, key, value),
-        None => put_in(head, most, key, value),
+    let (leaf, found) = find_over(head, tree, &key);
+    match leaf {
+        Some(leaf) => put_at(page_mut(tree, leaf), found, most, key, value),
+        None => put_at(head, found, most, key, value),
     }
 }
 
