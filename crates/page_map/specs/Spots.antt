@@ -11,10 +11,15 @@ use Rattle.art_pages.specs.Entries.{AllAbove, AllBelow, IsPlaceOf, get_by}
 use Rattle.page_map.specs.Pages.{entries_in, AnchorsAbove}
 use Rattle.page_map.specs.Trees.{page_of, pages_of}
 
--- a place among so many entries is that of an entry, or lies between two
-abbrev pub IsInsideOf : Result ℕ ℕ → ℕ → Type 0
-IsInsideOf (Ok place) len = Unit {0}
-IsInsideOf (Err place) len = (0 < place) × (place < len)
+-- a place is that of an entry, or lies behind one
+abbrev pub IsBehindSome : Result ℕ ℕ → Type 0
+IsBehindSome (Ok place) = Unit {0}
+IsBehindSome (Err place) = 0 < place
+
+-- a place among so many entries is that of an entry, or lies before one
+abbrev pub IsBeforeSome : Result ℕ ℕ → ℕ → Type 0
+IsBeforeSome (Ok place) len = Unit {0}
+IsBeforeSome (Err place) len = place < len
 
 module _ {K V : Type 0} (compare : K → Ordering) (x : List ℕ) (head : List (K × V)) where
   -- the query, whose encoding is a text, belongs to the first page, there at this index; these are the other pages

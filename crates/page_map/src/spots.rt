@@ -3,14 +3,14 @@ ghost use Rattle.std.specs.Prelude.{◌≡◌, ◌<◌, ◌≤◌, ◌^◌, ◌�
 ghost use Rattle.std.specs.BTreeMap.{insert_entry};
 ghost use Rattle.art_pages.specs.Entries.{IsIndexable, IsPlaceOf, get_by};
 ghost use Rattle.page_map.specs.Pages.{map_entries, IsMap};
-ghost use Rattle.page_map.specs.Spots.{IsEntered, IsInsideOf, IsSpot, IsSpotInLeaf, IsSpotOver};
+ghost use Rattle.page_map.specs.Spots.{IsBeforeSome, IsBehindSome, IsEntered, IsSpot, IsSpotInLeaf, IsSpotOver};
 ghost use Rattle.page_map.specs.Trees.{pages_in, pages_of};
 ghost use Rattle.page_map.specs.declared.fault.InsertRefusal.TheVariants.{KeyTooLong, OutOfMemory};
 
 use crate::fault::{InsertFault, InsertRefusal, TOO_LONG, refuse};
 use crate::map::{Leaf, Tree};
 use crate::room::make_room;
-use art_index::{floor, likely_floor, page, page_mut};
+use art_index::{floor, likely_floor, next_page, page, page_mut};
 use art_keys::{RadixKey, RadixQuery};
 use art_pages::Page;
 use std::alloc::Global;
@@ -42,7 +42,7 @@ fn find_by_anchors<K: RadixKey, V, Q: RadixQuery<K>>(
 }
 
 // The page that a query likely belongs to, and its index there, where the page shows that it does: it has
-// the entry, or two entries beside the query.
+// the entry, or two entries beside the query, or one before it and is the last page.
 #[inline]
 fn find_inside<K: RadixKey, V, Q: RadixQuery<K>>(
     _head: &Page<K, V>,
@@ -58,21 +58,37 @@ fn find_inside<K: RadixKey, V, Q: RadixQuery<K>>(
     let leaf = likely_floor(tree, query)?;
     let page = page(tree, leaf).1;
     let place = page.search(query);
-    if is_inside(place, page.len()) {
-        Some((leaf, place))
-    } else {
-        None
+    if !is_behind_some(place) {
+        return None;
+    }
+    if is_before_some(place, page.len()) {
+        return Some((leaf, place));
+    }
+    match next_page(tree, leaf) {
+        Some(_) => None,
+        None => Some((leaf, place)),
     }
 }
 
-// Whether an index of so many entries has one, or lies between two.
+// Whether a place is that of an entry, or lies behind one.
 #[inline]
-fn is_inside(place: Result<usize, usize>, len: usize) -> bool
-    ensures { IsTrue result → IsInsideOf place len }
+fn is_behind_some(place: Result<usize, usize>) -> bool
+    ensures { IsTrue result → IsBehindSome place }
 {
     match place {
         Ok(_) => true,
-        Err(place) => 0 < place && place < len,
+        Err(place) => 0 < place,
+    }
+}
+
+// Whether a place among so many entries is that of an entry, or lies before one.
+#[inline]
+fn is_before_some(place: Result<usize, usize>, len: usize) -> bool
+    ensures { IsTrue result → IsBeforeSome place len }
+{
+    match place {
+        Ok(_) => true,
+        Err(place) => place < len,
     }
 }
 
