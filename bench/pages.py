@@ -2,8 +2,8 @@
 their calls return.
 
 Inserts in random order (but of ascending numbers), look-ups in another, of absent keys too, a visit of all entries from
-either end, a range of 100 entries from each hundredth key on, removals in a third order, and `pop_first` of all. Of fewer than 20,000 entries there are several maps, with
-20,000 in all. Both maps take turns in each run, so their ratio says more than either time: the last row has its median, and
+either end, key and value, and of the values alone, a range of 100 entries from each hundredth key on, removals in a third
+order, and `pop_first` of all. Of fewer than 20,000 entries there are several maps, with 20,000 in all. Both maps take turns in each run, so their ratio says more than either time: the last row has its median, and
 in brackets the least and the greatest.
 
 Memory is the anonymous pages of a process with the entries beyond those of one that has the keys alone, and `peak` the
@@ -29,7 +29,7 @@ SIZES = [10, 100, 500, 100_000, 1_000_000]
 RUNS = 7
 OURS, THEIRS = MAPS = ["`Map`", "`BTreeMap` of Rattle"]
 RATIO = "ratio"
-CALLS = ["insert", "get", "miss", "remove", "pop_first", "iterate", "iterate_back", "range", "bytes", "peak"]
+CALLS = ["insert", "get", "miss", "remove", "pop_first", "iterate", "iterate_back", "values", "range", "bytes", "peak"]
 ENTRIES_FOR_ONE = {"range": 100}  # of these calls one is made for so many entries
 
 
