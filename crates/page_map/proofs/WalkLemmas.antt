@@ -22,7 +22,7 @@ use Rattle.page_map.proofs.RunLemmas.{entries_last, rank-placed}
 use Rattle.page_map.proofs.TreeLemmas.{pages, pages-around}
 use Rattle.page_map.specs.Pages.{entries_in}
 use Rattle.page_map.specs.Trees.{page_of, pages_of}
-use Rattle.page_map.specs.Walk.{IsAt, IsUpTo, IsWalk}
+use Rattle.page_map.specs.Walk.{IsAt, IsUpTo}
 
 -- the entries that stay are fewer
 pub fewer-retained : {F K V : Type 0} (T : F → K → V → Bool → V → F → Type 0) (entries kept : List (K × V)) (f last : F) → RetainsTo T f entries kept last → IsFewer entries kept
@@ -52,6 +52,16 @@ Leaves K V = List (List ℕ × Contents K V)
 -- the entries of pages, and of one more behind them
 entries-more : {K V : Type 0} (left : Leaves K V) (leaf : List ℕ × Contents K V) → entries_in (pages (left ++ leaf ∷ [])) ≡ entries_in (pages left) ++ leaf.1.entries
 entries-more left leaf = ap entries_in (map-append page_of left (leaf ∷ [])) ∙ entries_last (pages left) (page_of leaf)
+
+-- a test f was made of the entries of the pages before a leaf, and is to be made of the others; at first it was `first`, and these
+-- were the entries
+pub record IsWalk {F K V : Type 0} {P : ℕ} (T : F → K → V → Bool → V → F → Type 0) (Q : F → K → V → Type 0) (first : F) (entries : List (K × V))
+    (arena : Arena K V P) (at : Option (Leaf K V P)) (f : F) : Type 0 where
+  pub seen : Leaves K V
+  pub rest : Leaves K V
+  pub there : IsAt arena at seen rest
+  pub callable : CallableOnEachPair T Q f (entries_in (pages rest))
+  pub tested : (kept : List (K × V)) (last : F) → RetainsTo T f (entries_in (pages rest)) kept last → RetainsTo T first entries (entries_in (pages seen) ++ kept) last
 
 module _ {K V : Type 0} {P : ℕ} where
   abbrev Placed : Arena K V P → Leaf K V P → Type 0

@@ -29,6 +29,9 @@ impl<K: RadixKey + Drop, V: Drop> Map<K, V> {
     /// Calls the closure once for each entry, in ascending order of the keys. It may change the value;
     /// the keys stay. It is never refused, and costs as much as a [`retain`](Self::retain) that keeps all
     /// entries.
+    ///
+    /// Where each call leaves what a function makes of key and value, and changes nothing else, the lemma
+    /// `values_same` of `proofs/CalledLemmas.antt` has the entries afterwards.
     pub fn for_each_value_mut<F: FnMut(&K, &mut V)>(&mut self, f: F)
         requires { CallableInTurn F.FnMut f self.old }
         ensures in_turn { ChangesInTurn F.FnMut f self.old self.new }

@@ -1,8 +1,8 @@
 use Rattle.std.proofs.Common.{◌≡◌, ◌+◌, List, length}
 use Rattle.page_map.proofs.EndLemmas.{leaves-left}
+use Rattle.page_map.proofs.WalkLemmas.{IsWalk}
 use Rattle.page_map.specs.Pages.{entries_in, IsMap}
 use Rattle.page_map.specs.Trees.{pages_of}
-use Rattle.page_map.specs.Walk.{IsWalk}
 use Rattle.page_map.proofs.walk.retain_over.Given as goal
 
 abbrev pub invariant-pages : goal.invariant-pages

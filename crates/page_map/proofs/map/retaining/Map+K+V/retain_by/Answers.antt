@@ -24,6 +24,7 @@ returns-clause-retained g c =
 
 pub returns-clause-bound : goal.returns-clause-bound
 returns-clause-bound g c =
+    let old = map_entries c.self.inside.head.entries (pages_in (λ tree. pages_of tree.value.arena) c.self.inside.tree) in
     let new = c.retain-self-inside.new in let left = map_entries new.head.entries (pages_in (λ tree. pages_of tree.value.arena) new.tree) in
-    subst (λ (old : _). length left ≤ length old) c.self.view_is
-    (pairs-shorter g.F.Keeps.step _ left c.args.test c.retain-self-inside.ensures.retained)
+    subst (λ (l : _). length left ≤ length l) c.self.view_is
+    (pairs-shorter g.F.Keeps.step old left c.args.test c.retain-self-inside.ensures.retained)
