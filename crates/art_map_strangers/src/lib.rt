@@ -3,6 +3,7 @@
 
 pub mod any_key;
 pub mod history;
+pub mod moved_entries;
 pub mod nine_parts;
 pub mod over_pages;
 pub mod over_std;
