@@ -24,3 +24,4 @@ pub mod WalkLemmas
 pub mod CalledLemmas
 pub mod KeyBoundLemmas
 pub mod InsideLemmas
+pub mod SwapLemmas

@@ -1,15 +1,18 @@
 //! An entry put into the page where it belongs.
-ghost use Rattle.std.specs.Prelude.{◌≡◌, ◌<◌, None, IfOk, IfErr, OnOk, OnErr};
+ghost use Rattle.std.specs.Prelude.{◌≡◌, ◌<◌, None, Some, IfOk, IfErr, OnOk, OnErr};
 ghost use Rattle.std.specs.BTreeMap.{insert_entry};
-ghost use Rattle.art_pages.specs.Entries.{IsIndexable, IsPlaceOf, get_by};
+ghost use Rattle.art_pages.specs.Entries.{IsIndexable, IsPlaceOf, get_by, get_key_by};
+ghost use Rattle.page_map.specs.Inserts.{IsSwapped};
 ghost use Rattle.page_map.specs.Pages.{map_entries, IsMap};
 ghost use Rattle.page_map.specs.Trees.{pages_in, pages_of};
 
 use crate::map::Tree;
 use crate::spots::find_over;
-use art_index::page_mut;
+use art_index::{floor, page_mut};
 use art_keys::RadixKey;
 use art_pages::Page;
+use std::alloc::Global;
+use std::mem;
 
 // Puts an entry at its place in a page with spare capacity and fewer entries than `most`, or replaces the
 // value of its key. Else the entry comes back.
@@ -122,5 +125,89 @@ pub(crate) fn put<K: RadixKey + Drop, V>(
     match tree {
         Some(tree) => put_over(head, tree, most, key, value),
         None => put_in(head, most, key, value),
+    }
+}
+
+// Puts a key into the place of the equal key that a page has, and returns that one. Else the key comes
+// back.
+fn swap_in<K: RadixKey + Drop, V: Drop>(
+    page: &mut Page<K, V>,
+    alloc: Global,
+    key: K,
+) -> Result<K, K>
+    requires { IsIndexable K.is_key K.encoded key }
+    ensures old { IfOk result (λ old. get_key_by (K.cmp key) page.old.entries ≡ Some old) }
+    ensures entries { OnOk result (IsSwapped K.cmp key page.old.entries page.new.entries) }
+    ensures returned { IfErr result (λ back. back ≡ key) }
+    ensures absent { OnErr result (get_key_by (K.cmp key) page.old.entries ≡ None) }
+    ensures same { OnErr result (page.new.entries ≡ page.old.entries) }
+{
+    // So that the entries are known to be in order.
+    let _len = page.len();
+    let place = match page.search(&key) {
+        Ok(place) => place,
+        Err(_) => return Err(key),
+    };
+    let held = mem::replace(page, Page::new(alloc));
+    let mut entries = held.into_entries();
+    let old = mem::replace(&mut entries[place].0, key);
+    *page = Page::from_entries(entries);
+    Ok(old)
+}
+
+// The same in the page of a map where the key belongs.
+fn swap_over<K: RadixKey + Drop, V: Drop>(
+    head: &mut Page<K, V>,
+    tree: &mut Tree<K, V>,
+    alloc: Global,
+    key: K,
+) -> Result<K, K>
+    requires map { IsMap K.order K.is_key K.encoded head.old.entries (pages_of tree.old.arena) }
+    requires key { IsIndexable K.is_key K.encoded key }
+    ensures map { IsMap K.order K.is_key K.encoded head.new.entries (pages_of tree.new.arena) }
+    ensures old { IfOk result (λ old. get_key_by (K.cmp key)
+        (map_entries head.old.entries (pages_of tree.old.arena)) ≡ Some old) }
+    ensures entries { OnOk result (IsSwapped K.cmp key (map_entries head.old.entries (pages_of tree.old.arena))
+        (map_entries head.new.entries (pages_of tree.new.arena))) }
+    ensures returned { IfErr result (λ back. back ≡ key) }
+    ensures absent { OnErr result (get_key_by (K.cmp key)
+        (map_entries head.old.entries (pages_of tree.old.arena)) ≡ None) }
+    ensures same { OnErr result (map_entries head.new.entries (pages_of tree.new.arena)
+        ≡ map_entries head.old.entries (pages_of tree.old.arena)) }
+{
+    match floor(tree, &key) {
+        Some(leaf) => swap_in(page_mut(tree, leaf), alloc, key),
+        None => swap_in(head, alloc, key),
+    }
+}
+
+/// Puts a key into the place of the equal key that a map has, and returns that one. Where there is none,
+/// the key comes back. Is never refused.
+pub(crate) fn swap<K: RadixKey + Drop, V: Drop>(
+    head: &mut Page<K, V>,
+    tree: &mut Option<Box<Tree<K, V>>>,
+    alloc: Global,
+    key: K,
+) -> Result<K, K>
+    requires map { IsMap K.order K.is_key K.encoded head.old.entries
+        (pages_in (λ tree. pages_of tree.value.arena) tree.old) }
+    requires key { IsIndexable K.is_key K.encoded key }
+    ensures map { IsMap K.order K.is_key K.encoded head.new.entries
+        (pages_in (λ tree. pages_of tree.value.arena) tree.new) }
+    ensures old { IfOk result (λ old. get_key_by (K.cmp key) (map_entries head.old.entries
+        (pages_in (λ tree. pages_of tree.value.arena) tree.old)) ≡ Some old) }
+    ensures entries { OnOk result (IsSwapped K.cmp key
+        (map_entries head.old.entries (pages_in (λ tree. pages_of tree.value.arena) tree.old))
+        (map_entries head.new.entries (pages_in (λ tree. pages_of tree.value.arena) tree.new))) }
+    ensures returned { IfErr result (λ back. back ≡ key) }
+    ensures absent { OnErr result (get_key_by (K.cmp key) (map_entries head.old.entries
+        (pages_in (λ tree. pages_of tree.value.arena) tree.old)) ≡ None) }
+    ensures same { OnErr result (map_entries head.new.entries
+        (pages_in (λ tree. pages_of tree.value.arena) tree.new)
+        ≡ map_entries head.old.entries (pages_in (λ tree. pages_of tree.value.arena) tree.old)) }
+{
+    match tree {
+        Some(tree) => swap_over(head, tree, alloc, key),
+        None => swap_in(head, alloc, key),
     }
 }

@@ -1,12 +1,13 @@
 //! Entries added.
-ghost use Rattle.std.specs.Prelude.{◌≡◌, ◌+◌, ◌≤◌, ◌^◌, ◌↔◌, None, length, is_some, if◌then◌else◌, IfOk, IfErr, IfNone, IfSome, IsSome, OnOk, OnErr};
-ghost use Rattle.std.specs.BTreeMap.{insert_entry};
-ghost use Rattle.art_pages.specs.Entries.{AreKeys, IsIndexable, IsOrdered, get_by};
+ghost use Rattle.std.specs.Prelude.{◌≡◌, ◌+◌, ◌≤◌, ◌^◌, ◌↔◌, None, Some, length, is_some, if◌then◌else◌, IfOk, IfErr, IfNone, IfSome, IsSome, OnOk, OnErr};
+ghost use Rattle.std.specs.BTreeMap.{insert_entry, is_at};
+ghost use Rattle.std.specs.Map.{set_key};
+ghost use Rattle.art_pages.specs.Entries.{AreKeys, IsIndexable, IsOrdered, get_by, get_key_by};
 ghost use Rattle.page_map.specs.declared.fault.InsertRefusal.TheVariants.{KeyTooLong};
 
 use super::{FIRST_MOST, MOST, Map};
 use crate::fault::{InsertFault, InsertRefusal, TOO_LONG, refuse};
-use crate::put::put;
+use crate::put::{put, swap};
 use crate::room::make_room;
 use art_keys::RadixKey;
 use std::alloc::AllocError;
@@ -75,6 +76,29 @@ impl<K: RadixKey, V> Map<K, V> {
             Ok(_) => Ok(None),
             Err(fault) => Err(fault),
         }
+    }
+
+    /// Puts a key into the place of the equal key that the map has, which is returned. Its value and the
+    /// other entries stay. Where there is none, the key comes back. It is never refused.
+    ///
+    /// Costs as much as [`get`](Self::get), and the keys of a page are read once, with memory for what a
+    /// search there begins with: refused, such searches take longer, and no more.
+    pub fn replace_key(&mut self, key: K) -> Result<K, K>
+    where
+        K: Drop,
+        V: Drop,
+        ensures old { IfOk result (λ old. get_key_by (K.cmp key) self.old ≡ Some old) }
+        ensures entries { OnOk result (self.new ≡ set_key (is_at (K.cmp key)) self.old key) }
+        ensures returned { IfErr result (λ back. back ≡ key) }
+        ensures absent { OnErr result (get_key_by (K.cmp key) self.old ≡ None) }
+        ensures err { OnErr result (self.new ≡ self.old) }
+        ensures ordered { IsOrdered K.cmp self.new }
+    {
+        self.show_keys();
+        if TOO_LONG <= key.encoded_len() {
+            return Err(key);
+        }
+        swap(&mut self.head, &mut self.tree, self.alloc, key)
     }
 
     // What is known of the entries of each map.
