@@ -3,3 +3,4 @@ pub mod OrderedKeys
 pub mod WalkLemmas
 pub mod KeyOrders
 pub mod EndKeys
+pub mod ReplacedKeys

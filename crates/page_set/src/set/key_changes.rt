@@ -2,7 +2,7 @@
 ghost use Rattle.std.specs.Prelude.{◌≡◌, ◌+◌, ◌≤◌, ◌^◌, ◌↔◌, [], false, not, length, is_some, if◌then◌else◌, IfErr, IfNone, IfOk, IfSome, OnErr, OnOk};
 ghost use Rattle.std.specs.Bool.{OnFalse};
 ghost use Rattle.std.specs.BTreeMap.{is_at};
-ghost use Rattle.std.specs.BTreeSet.{insert_key};
+ghost use Rattle.std.specs.BTreeSet.{insert_key, replace_key};
 ghost use Rattle.std.specs.List.Sorted.{IsStrictlySortedBy};
 ghost use Rattle.std.specs.Set.{remove_key};
 ghost use Rattle.std.specs.declared.cmp.Ordering.TheVariants.{Equal};
@@ -40,6 +40,35 @@ impl<K: RadixKey> Set<K> {
             Err(fault) => return Err(fault),
         };
         Ok(old.is_none())
+    }
+
+    /// Adds a key. Where the set has an equal one, it takes its place, and that one is returned.
+    ///
+    /// Only a key that is not there is refused, as [`insert`](Self::insert) refuses it, and then it comes
+    /// back and the set is as it was.
+    pub fn replace(&mut self, key: K) -> Result<Option<K>, InsertFault<K, ()>>
+    where
+        K: Drop,
+        ensures old { IfOk result (λ old. old ≡ get_by (K.cmp key) self.old) }
+        ensures keys { OnOk result (self.new ≡ replace_key K.cmp self.old key) }
+        ensures len { IfOk result (λ old. length self.new ≡ length self.old + (if is_some old then 0 else 1)) }
+        ensures too_long { IfErr result
+            (λ fault. (fault.refusal ≡ KeyTooLong) ↔ (2 ^ 32 ≤ length (K.encoded key))) }
+        ensures returned { IfErr result (λ fault. fault.key ≡ key) }
+        ensures absent { OnErr result (contains_by (K.cmp key) self.old ≡ false) }
+        ensures err { OnErr result (self.new ≡ self.old) }
+        ensures ordered { IsStrictlySortedBy K.cmp self.new }
+    {
+        // So that the keys are known to be in order.
+        let _len = self.len();
+        let key = match self.entries.replace_key(key) {
+            Ok(old) => return Ok(Some(old)),
+            Err(key) => key,
+        };
+        match self.insert(key) {
+            Ok(_) => Ok(None),
+            Err(fault) => Err(fault),
+        }
     }
 
     /// Takes out the key of a query, if the set has it. It is never refused.
