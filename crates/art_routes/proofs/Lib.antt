@@ -17,3 +17,4 @@ pub mod TextLemmas
 pub mod TreeRoutes
 pub mod ResultLemmas
 pub mod WayLemmas
+pub mod ReadLemmas

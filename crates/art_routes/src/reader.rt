@@ -1,10 +1,11 @@
 //! A table that is read with a number of node visits that is counted.
 ghost use Rattle.std.specs.Prelude.{◌≡◌, ◌⊎◌, ◌+◌, ◌^◌, ◌<◌, ◌≤◌, All, MatchOption};
+ghost use Rattle.std.specs.Option.{option_copied};
 ghost use Rattle.art_tree.specs.Entries.{entries_of};
 ghost use Rattle.art_routes.specs.Keys.{key_text};
 ghost use Rattle.art_routes.specs.Networks.{IsNetwork, address_of};
 ghost use Rattle.art_routes.specs.Readings.{most_visits};
-ghost use Rattle.art_routes.specs.Tables.{AreInOrder, IsLongest, IsLongestOver, IsParent, IsShortest, NoneAround, NoneContains, NoneCovers, route_now};
+ghost use Rattle.art_routes.specs.Tables.{AreInOrder, IsLongest, IsLongestOver, IsParent, IsShortest, NoneAround, NoneContains, NoneCovers, route_now, value_of};
 
 use crate::address::{Address, number_of};
 use crate::network::{Network, parts};
@@ -127,6 +128,34 @@ impl<'a, V> RouteReader<'a, V> {
         ensures same_routes { self.new.routes ≡ self.old.routes }
     {
         longest_in(&mut self.nodes, self.root, address, length)
+    }
+
+    /// The value of the route to this very network, or None where there is none. It makes at most one visit more than the
+    /// key of the network has bytes, and so many must be left. Takes no memory.
+    ///
+    /// (from tests/art_routes/tests/reader_gets.rt.txt)
+    /// ```rust
+    /// let mut reader = table.reader(8);
+    /// assert!(rt; reader.get(&eight) == Some(&8) && reader.get(&seven).is_none());
+    /// ```
+    pub fn get(&mut self, network: &Network) -> Option<&'a V>
+        requires budget { most_visits network.now.length ≤ self.old.budget }
+        ensures value { option_copied result ≡ value_of self.old.routes network.now }
+        ensures visits { self.old.budget ≤ self.new.budget + most_visits network.now.length }
+        ensures same_routes { self.new.routes ≡ self.old.routes }
+    {
+        self.routes_ascend();
+        let (address, length) = parts(network);
+        match self.longest_over(address, length) {
+            Some(route) => {
+                if route.0.length() == length {
+                    Some(route.1)
+                } else {
+                    None
+                }
+            }
+            None => None,
+        }
     }
 
     /// The longest route whose network contains the address, with its value, or None where none does.
