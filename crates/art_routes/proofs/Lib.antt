@@ -18,3 +18,5 @@ pub mod TreeRoutes
 pub mod ResultLemmas
 pub mod WayLemmas
 pub mod ReadLemmas
+pub mod RemovalLemmas
+pub mod ThroughLemmas

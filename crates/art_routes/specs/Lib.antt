@@ -8,6 +8,7 @@ pub mod KeyLaws
 pub mod Ways
 pub mod Readings
 pub mod Lending
+pub mod Removing
 pub mod Texts
 pub mod Changes
 pub mod Differences

@@ -13,6 +13,7 @@ mod holds_routes;
 mod network;
 mod reader;
 mod refused_route;
+mod retaining;
 mod route_key;
 mod routes;
 mod table;

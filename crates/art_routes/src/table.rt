@@ -28,8 +28,8 @@ use std::ops::Bound;
 /// The routes that a map `M` holds. Callers name it [`RouteTable`].
 #[derive(Drop)]
 pub struct TableOver<M: HoldsRoutes<V>, V> {
-    routes: M,
-    value: PhantomData<V>,
+    pub(crate) routes: M,
+    pub(crate) value: PhantomData<V>,
 }
 
 impl<M: HoldsRoutes<V>, V> Model for TableOver<M, V> {
