@@ -19,4 +19,6 @@ pub mod ResultLemmas
 pub mod WayLemmas
 pub mod ReadLemmas
 pub mod RemovalLemmas
+pub mod PutAgainLemmas
 pub mod ThroughLemmas
+pub mod EnteredLemmas

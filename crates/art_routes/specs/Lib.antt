@@ -9,6 +9,7 @@ pub mod Ways
 pub mod Readings
 pub mod Lending
 pub mod Removing
+pub mod RouteEntries
 pub mod Texts
 pub mod Changes
 pub mod Differences

@@ -14,6 +14,7 @@ mod network;
 mod reader;
 mod refused_route;
 mod retaining;
+mod route_entry;
 mod route_key;
 mod routes;
 mod table;
@@ -28,6 +29,7 @@ pub use free::Free;
 pub use network::Network;
 pub use reader::RouteReader;
 pub use refused_route::RefusedRoute;
+pub use route_entry::{OccupiedRoute, RouteEntry, VacantRoute};
 pub use routes::{IntoRoutes, Routes};
 pub use table::RouteTable;
 
@@ -40,6 +42,7 @@ pub mod parts {
     pub use crate::free::FreeOver;
     pub use crate::holds_routes::HoldsRoutes;
     pub use crate::reader::{ReaderOver, ReadsRoutes};
+    pub use crate::route_entry::{OccupiedRouteOver, RouteEntryOver, VacantRouteOver};
     pub use crate::route_key::RouteKey;
     pub use crate::routes::RoutesOver;
     pub use crate::table::TableOver;
