@@ -25,3 +25,4 @@ pub mod CalledLemmas
 pub mod KeyBoundLemmas
 pub mod InsideLemmas
 pub mod SwapLemmas
+pub mod JoinLemmas

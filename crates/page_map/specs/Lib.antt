@@ -11,3 +11,4 @@ pub mod Ranges
 pub mod Seats
 pub mod Walk
 pub mod KeyBounds
+pub mod Joins

@@ -4,8 +4,8 @@ ghost use Rattle.page_map.specs.Pages.{entries_in, map_entries, IsMap};
 ghost use Rattle.page_map.specs.Trees.{pages_in, pages_of};
 ghost use Rattle.page_map.specs.Ends.{IsFirstFilled, IsLastFilled};
 
+use crate::join::settle;
 use crate::map::{Leaf, Tree};
-use crate::take::drop_if_empty;
 use art_index::{first_page, last_page, next_page, page, page_mut, previous_page};
 use art_keys::RadixKey;
 use art_pages::Page;
@@ -37,7 +37,7 @@ fn take_first_over<K: RadixKey, V>(_head: &Page<K, V>, tree: &mut Tree<K, V>) ->
 {
     let leaf = first_filled_leaf(tree)?;
     let entry = page_mut(tree, leaf).remove_at(0);
-    drop_if_empty(_head, tree, leaf);
+    settle(_head, tree, leaf);
     Some(entry)
 }
 
@@ -107,7 +107,7 @@ fn take_last_of_tree<K: RadixKey, V>(_head: &Page<K, V>, tree: &mut Tree<K, V>) 
     let leaf = last_filled_leaf(tree)?;
     let last = page(tree, leaf).1.len() - 1;
     let entry = page_mut(tree, leaf).remove_at(last);
-    drop_if_empty(_head, tree, leaf);
+    settle(_head, tree, leaf);
     Some(entry)
 }
 

@@ -9,6 +9,7 @@ mod first_page;
 mod gaps;
 mod into_iter;
 mod iter;
+mod join;
 mod keys;
 mod map;
 mod put;

@@ -8,6 +8,7 @@ ghost use Rattle.art_index.specs.Places.{IsPlaced};
 ghost use Rattle.page_map.specs.Pages.{map_entries, IsMap};
 ghost use Rattle.page_map.specs.Trees.{pages_in, pages_of};
 
+use crate::join::settle;
 use crate::map::{Leaf, Tree};
 use art_index::{floor, page, page_mut, take_page};
 use art_keys::{RadixKey, RadixQuery};
@@ -65,7 +66,7 @@ fn take_over<K: RadixKey, V, Q: RadixQuery<K>>(
     match floor(tree, query) {
         Some(leaf) => {
             let taken = take_in(page_mut(tree, leaf), query);
-            drop_if_empty(head, tree, leaf);
+            settle(head, tree, leaf);
             taken
         }
         None => take_in(head, query),

@@ -13,8 +13,8 @@ remove_at-entry-requires g c =
     let found = c.in_ok-leaf.ensures in
     subst (λ (p : _). 0 < length p.entries) (sym (c.page_mut.ensures.page found.0)) (some-there found.0.entry.1.entries found.2)
 
-pub drop_if_empty-requires : goal.drop_if_empty-requires
-drop_if_empty-requires g c =
+pub settle-requires : goal.settle-requires
+settle-requires g c =
     let order = g.K.KeyBytes.order in let is_key = g.K.KeyBytes.is_key in let encoded = g.K.KeyBytes.encoded in
     let old = c.args.tree.now.arena in let head = c.args._head.now.entries in
     let here = c.in_ok-leaf.ensures.0 in let page = c.remove_at-entry.new.self in
@@ -39,4 +39,4 @@ returns-clause-first g c =
     first-of-page order is_key encoded c.remove_at-entry.result head (pages_of old) c.requires.map c.requires.none
     (pages here.left) (page_of here.entry) (pages here.right) (pages-around old c.in_ok-leaf.leaf here) c.in_ok-leaf.ensures.1
     page.entries first (pages_of new) (pages-changed old new c.in_ok-leaf.leaf page here (c.page_mut.ensures.changes here page))
-    ∙ ap (λ l. c.remove_at-entry.result ∷ l) (sym c.drop_if_empty.ensures.same)
+    ∙ ap (λ l. c.remove_at-entry.result ∷ l) (sym c.settle.ensures.same)

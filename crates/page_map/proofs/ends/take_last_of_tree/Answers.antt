@@ -22,8 +22,8 @@ remove_at-entry-requires g c =
     let counted = c.len-last.ensures.len ∙ ap (λ (leaf : _). length leaf.1.entries) (c.page.ensures here) ∙ ap length (sym was) in
     let some = subst (λ l. 0 < length l) (sym was) (some-there here.entry.1.entries c.in_ok-leaf.ensures.2) in omega (arith, counted, some)
 
-pub drop_if_empty-requires : goal.drop_if_empty-requires
-drop_if_empty-requires g c =
+pub settle-requires : goal.settle-requires
+settle-requires g c =
     let order = g.K.KeyBytes.order in let is_key = g.K.KeyBytes.is_key in let encoded = g.K.KeyBytes.encoded in
     let old = c.args.tree.now.arena in let head = c.args._head.now.entries in
     let here = c.in_ok-leaf.ensures.0 in let page = c.remove_at-entry.new.self in
@@ -52,4 +52,4 @@ returns-clause-last g c =
     (pages here.left) (page_of here.entry) (pages here.right) (pages-around old c.in_ok-leaf.leaf here)
     page.entries (c.remove_at-entry.result ∷ []) (pages_of new) (pages-changed old new c.in_ok-leaf.leaf page here (c.page_mut.ensures.changes here page))
     c.in_ok-leaf.ensures.1 last
-    ∙ ap (λ l. l ++ c.remove_at-entry.result ∷ []) (sym c.drop_if_empty.ensures.same)
+    ∙ ap (λ l. l ++ c.remove_at-entry.result ∷ []) (sym c.settle.ensures.same)

@@ -13,8 +13,8 @@ use Rattle.page_map.proofs.TakeLemmas.{head-left, head-map, page-left, page-map}
 use Rattle.page_map.proofs.TreeLemmas.{pages, anchors-above, pages-around, pages-changed}
 use Rattle.page_map.proofs.take.take_over.Goals as goal
 
-pub drop_if_empty-requires : goal.drop_if_empty-requires
-drop_if_empty-requires g c =
+pub settle-requires : goal.settle-requires
+settle-requires g c =
     let compare = g.Q.RadixQuery.compare c.args.query in let x = g.Q.RadixQuery.encoded c.args.query in
     let is_key = g.K.KeyBytes.is_key in let encoded = g.K.KeyBytes.encoded in let order = g.K.KeyBytes.order in
     let head = c.args.head.now.entries in let old = c.args.tree.now.arena in
@@ -38,7 +38,7 @@ returns-in-Some-clause-entries g c =
     let place = c.in-Some.ensures.place in let page = c.take_in-taken.new.page in
     let new = with_value_at old (slab_key c.in-Some.leaf) page in
     let was = ap (λ (p : _). p.entries) (c.page_mut.ensures.page place) in
-    c.drop_if_empty.ensures.same ∙ page-left order is_key encoded compare x (λ k is. g.met.Q.RadixQuery.agrees c.args.query k c.encoded_len-len.ensures.query is.0 is.1)
+    c.settle.ensures.same ∙ page-left order is_key encoded compare x (λ k is. g.met.Q.RadixQuery.agrees c.args.query k c.encoded_len-len.ensures.query is.0 is.1)
     head (pages_of old) c.requires (pages place.left) (page_of place.entry) (pages place.right) (pages-around old c.in-Some.leaf place)
     c.in-Some.ensures.low (anchors-above x place.right c.in-Some.ensures.above)
     page.entries (c.take_in-taken.ensures.entries ∙ ap (remove_entry (is_at compare)) was)
