@@ -3,16 +3,34 @@ ghost use Rattle.std.specs.Prelude.{◌≡◌};
 ghost use Rattle.std.specs.BTreeMap.{is_at};
 ghost use Rattle.std.specs.Map.{remove_entry};
 ghost use Rattle.std.specs.Option.{option_map};
-ghost use Rattle.art_pages.specs.Entries.{get_by, get_key_by};
+ghost use Rattle.art_pages.specs.Entries.{IsPlaceOf, get_by, get_key_by};
 ghost use Rattle.art_index.specs.Places.{IsPlaced};
 ghost use Rattle.page_map.specs.Pages.{map_entries, IsMap};
 ghost use Rattle.page_map.specs.Trees.{pages_in, pages_of};
 
 use crate::join::settle;
 use crate::map::{Leaf, Tree};
-use art_index::{floor, page, page_mut, take_page};
+use crate::spots::find_over;
+use art_index::{page, page_mut, take_page};
 use art_keys::{RadixKey, RadixQuery};
 use art_pages::Page;
+
+// Takes the entry at the place of a query out of a page, if there is one.
+fn take_at<K: RadixKey, V, Q: RadixQuery<K>>(
+    page: &mut Page<K, V>,
+    _query: Q,
+    found: Result<usize, usize>,
+) -> Option<(K, V)>
+    requires { IsPlaceOf (Q.compare _query) page.old.entries found }
+    ensures key { option_map (λ entry. entry.0) result ≡ get_key_by (Q.compare _query) page.old.entries }
+    ensures value { option_map (λ entry. entry.1) result ≡ get_by (Q.compare _query) page.old.entries }
+    ensures entries { page.new.entries ≡ remove_entry (is_at (Q.compare _query)) page.old.entries }
+{
+    match found {
+        Ok(place) => Some(page.remove_at(place)),
+        Err(_) => None,
+    }
+}
 
 // Takes the entry with the key of a query out of a page, if the page has it.
 fn take_in<K: RadixKey, V, Q: RadixQuery<K>>(page: &mut Page<K, V>, query: Q) -> Option<(K, V)>
@@ -20,10 +38,8 @@ fn take_in<K: RadixKey, V, Q: RadixQuery<K>>(page: &mut Page<K, V>, query: Q) ->
     ensures value { option_map (λ entry. entry.1) result ≡ get_by (Q.compare query) page.old.entries }
     ensures entries { page.new.entries ≡ remove_entry (is_at (Q.compare query)) page.old.entries }
 {
-    match page.search(query) {
-        Ok(place) => Some(page.remove_at(place)),
-        Err(_) => None,
-    }
+    let found = page.search(query);
+    take_at(page, query, found)
 }
 
 /// Takes the page of a leaf out of the tree of a map, if it has no entries. Where memory is refused for
@@ -63,13 +79,14 @@ fn take_over<K: RadixKey, V, Q: RadixQuery<K>>(
 {
     // So that the laws of queries are known of it.
     let _len = query.encoded_len();
-    match floor(tree, query) {
+    let (leaf, found) = find_over(head, tree, query);
+    match leaf {
         Some(leaf) => {
-            let taken = take_in(page_mut(tree, leaf), query);
+            let taken = take_at(page_mut(tree, leaf), query, found);
             settle(head, tree, leaf);
             taken
         }
-        None => take_in(head, query),
+        None => take_at(head, query, found),
     }
 }
 
