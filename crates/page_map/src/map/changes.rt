@@ -95,7 +95,7 @@ impl<K: RadixKey, V> Map<K, V> {
         ensures ordered { IsOrdered K.cmp self.new }
     {
         self.show_keys();
-        if TOO_LONG <= key.encoded_len() {
+        if key.encoded_len() >= TOO_LONG {
             return Err(key);
         }
         swap(&mut self.head, &mut self.tree, self.alloc, key)
