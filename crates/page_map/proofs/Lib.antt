@@ -26,3 +26,4 @@ pub mod KeyBoundLemmas
 pub mod InsideLemmas
 pub mod SwapLemmas
 pub mod JoinLemmas
+pub mod CursorLemmas

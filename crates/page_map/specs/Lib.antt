@@ -12,3 +12,4 @@ pub mod Seats
 pub mod Walk
 pub mod KeyBounds
 pub mod Joins
+pub mod Cursors

@@ -1,6 +1,7 @@
 //! An ordered map with native keys: pages of sorted entries, under an adaptive radix tree.
 #![tactic(auto)]
 
+mod cursor;
 mod debug;
 mod ends;
 mod entry;
@@ -20,6 +21,7 @@ mod take;
 mod walk;
 mod within;
 
+pub use cursor::{Cursor, CursorOver};
 pub use entry::{Entry, EntryOver, OccupiedEntry, OccupiedOver, VacantEntry, VacantOver};
 pub use fault::{ExtendFault, InsertFault, InsertRefusal};
 pub use into_iter::{IntoIter, IntoKeys, IntoValues, TakenEntries, TakenKeys, TakenValues};

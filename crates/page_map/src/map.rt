@@ -4,6 +4,7 @@ ghost use Rattle.art_pages.specs.Entries.{IsOrdered};
 
 mod changes;
 mod comparing;
+mod cursors;
 mod iterating;
 mod lending;
 mod many_entries;

@@ -1,5 +1,5 @@
 //! The entries within two bounds: the place of each is sought, and what is between them are pages.
-ghost use Rattle.std.specs.Prelude.{◌≡◌, ◌<◌, ◌≤◌, ◌&&◌, true, false, not, Some, drop, filter, length, take};
+ghost use Rattle.std.specs.Prelude.{◌≡◌, ◌<◌, ◌≤◌, ◌&&◌, ℕ, true, false, not, Some, drop, filter, length, take};
 ghost use Rattle.art_nodes.specs.Pointers.{slab_key};
 ghost use Rattle.art_index.specs.Places.{IsPlaced};
 ghost use Rattle.page_map.specs.Gaps.{is_behind};
@@ -317,5 +317,74 @@ pub(crate) fn entries_within<'a, K: RadixKey, V, P: RadixQuery<K>, Q: RadixQuery
     match tree {
         Some(tree) => within_tree(head, tree, start, end),
         None => entries_of_slice(within_page(head, start, end)),
+    }
+}
+
+// The entries of a map with a tree from the gap of a start bound on.
+fn from_in_tree<'a, K: RadixKey, V, Q: RadixQuery<K>>(
+    head: &'a Page<K, V>,
+    tree: &'a Tree<K, V>,
+    start: Bound<Q>,
+) -> Iter<'a, K, V>
+    requires { IsMap K.order K.is_key K.encoded head.now.entries (pages_of tree.now.arena) }
+    ensures { (place : ℕ) × IsGapOf (λ entry. is_from Q.compare start entry.0)
+        (map_entries head.now.entries (pages_of tree.now.arena)) place ×
+        (result ≡ drop place (map_entries head.now.entries (pages_of tree.now.arena))) }
+{
+    let from = start_of(head, tree, start);
+    let to = end_place(head, tree);
+    entries_between(head, tree, from, to)
+}
+
+// The entries of a map with a tree up to the gap of an end bound.
+fn up_to_in_tree<'a, K: RadixKey, V, Q: RadixQuery<K>>(
+    head: &'a Page<K, V>,
+    tree: &'a Tree<K, V>,
+    end: Bound<Q>,
+) -> Iter<'a, K, V>
+    requires { IsMap K.order K.is_key K.encoded head.now.entries (pages_of tree.now.arena) }
+    ensures { (place : ℕ) × IsGapOf (λ entry. is_past Q.compare end entry.0)
+        (map_entries head.now.entries (pages_of tree.now.arena)) place ×
+        (result ≡ take place (map_entries head.now.entries (pages_of tree.now.arena))) }
+{
+    let to = end_of(head, tree, end);
+    entries_between(head, tree, (None, 0), to)
+}
+
+/// The entries of a map from the gap of a start bound on. Takes no memory.
+pub(crate) fn entries_from<'a, K: RadixKey, V, Q: RadixQuery<K>>(
+    head: &'a Page<K, V>,
+    tree: &'a Option<Box<Tree<K, V>>>,
+    start: Bound<Q>,
+) -> Iter<'a, K, V>
+    requires { IsMap K.order K.is_key K.encoded head.now.entries
+        (pages_in (λ tree. pages_of tree.value.arena) tree.now) }
+    ensures { (place : ℕ) × IsGapOf (λ entry. is_from Q.compare start entry.0)
+        (map_entries head.now.entries (pages_in (λ tree. pages_of tree.value.arena) tree.now)) place ×
+        (result ≡ drop place
+        (map_entries head.now.entries (pages_in (λ tree. pages_of tree.value.arena) tree.now))) }
+{
+    match tree {
+        Some(tree) => from_in_tree(head, tree, start),
+        None => entries_of_slice(slice_from(head.entries(), start_in(head, start))),
+    }
+}
+
+/// The entries of a map up to the gap of an end bound. Takes no memory.
+pub(crate) fn entries_up_to<'a, K: RadixKey, V, Q: RadixQuery<K>>(
+    head: &'a Page<K, V>,
+    tree: &'a Option<Box<Tree<K, V>>>,
+    end: Bound<Q>,
+) -> Iter<'a, K, V>
+    requires { IsMap K.order K.is_key K.encoded head.now.entries
+        (pages_in (λ tree. pages_of tree.value.arena) tree.now) }
+    ensures { (place : ℕ) × IsGapOf (λ entry. is_past Q.compare end entry.0)
+        (map_entries head.now.entries (pages_in (λ tree. pages_of tree.value.arena) tree.now)) place ×
+        (result ≡ take place
+        (map_entries head.now.entries (pages_in (λ tree. pages_of tree.value.arena) tree.now))) }
+{
+    match tree {
+        Some(tree) => up_to_in_tree(head, tree, end),
+        None => entries_of_slice(slice_up_to(head.entries(), end_in(head, end))),
     }
 }
