@@ -1,11 +1,12 @@
 //! Cursors: a gap between two entries of a map, which moves over one entry at a time.
-ghost use Rattle.std.specs.Prelude.{◌≡◌, ◌-◌, ◌∷◌, ◌++◌, [], true, false, length, slice_get, IfNone, IfSome};
+ghost use Rattle.std.specs.Prelude.{◌≡◌, ◌-◌, ◌∷◌, ◌++◌, [], true, false, length, slice_get, IfNone, IfSome, ⊤};
 ghost use Rattle.std.specs.Option.{option_map};
 ghost use Rattle.page_map.specs.Cursors.{AreSides, gap_sides};
 
 use crate::iter::{EntriesOf, HasPages, Iter};
 use crate::map::{HoldsPages, Leaf, Map, MapOver, Tree};
 use art_keys::{KeyBytes, RadixKey};
+use std::alloc::AllocError;
 use std::marker::Model;
 use std::ops::Bound;
 
@@ -162,5 +163,20 @@ impl<'a, K: RadixKey, V> Cursor<'a, K, V> {
             ≡ slice_get self.now.0 (length self.now.0 - 1) }
     {
         self.before().next_back()
+    }
+}
+
+/// Another cursor in the same gap. Takes no memory and never fails.
+impl<'a, K: KeyBytes, V> Clone for Cursor<'a, K, V> {
+    ghost is_clone = { λ cursor copy. copy ≡ cursor };
+
+    ghost is_infallible = { λ _. ⊤ };
+
+    fn clone(&self) -> Result<Cursor<'a, K, V>, AllocError> {
+        Ok(CursorOver {
+            map: self.map,
+            entries: same_entries(&self.entries),
+            are_after: self.are_after,
+        })
     }
 }
