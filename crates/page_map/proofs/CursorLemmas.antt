@@ -15,13 +15,7 @@ use Rattle.art_pages.proofs.OrderLemmas.{ordered-left, ordered-right}
 use Rattle.page_map.specs.Cursors.{AreSides, gap_sides}
 use Rattle.page_map.specs.Seats.{IsGapOf}
 use Rattle.page_map.proofs.EndLemmas.{above-others, below-others}
-
--- a test fails at an item, or passes
-abbrev Fails : {X : Type 0} → (X → Bool) → X → Type 0
-Fails test item = test item ≡ false
-
-abbrev Passes : {X : Type 0} → (X → Bool) → X → Type 0
-Passes test item = test item ≡ true
+use Rattle.page_map.proofs.WithinLemmas.{Fails, Passes}
 
 -- the sides of a gap are those that one of them leaves
 module _ {X : Type 0} (list a b : List X) (whole : a ++ b ≡ list) where

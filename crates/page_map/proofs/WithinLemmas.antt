@@ -5,10 +5,10 @@ use Rattle.std.proofs.lemmas.List.Elements.{All-nil, All-head, All-tail, All-app
 use Rattle.page_map.specs.Seats.{IsGapOf}
 
 -- a test fails at an item, or passes
-abbrev Fails : {X : Type 0} → (X → Bool) → X → Type 0
+abbrev pub Fails : {X : Type 0} → (X → Bool) → X → Type 0
 Fails test item = test item ≡ false
 
-abbrev Passes : {X : Type 0} → (X → Bool) → X → Type 0
+abbrev pub Passes : {X : Type 0} → (X → Bool) → X → Type 0
 Passes test item = test item ≡ true
 
 module _ {X : Type 0} (from past : X → Bool) where
