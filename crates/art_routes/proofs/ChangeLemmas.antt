@@ -20,7 +20,7 @@ order_total =
     then_total (on_total (λ (network : Block). network.address.width) nat_cmp_total)
     (then_total (on_total (λ (network : Block). network.address.bits) nat_cmp_total) (on_total (λ (network : Block). network.length) nat_cmp_total))
 
-turned : (a b : Block) → network_order a b ≡ Less → network_order b a ≡ Greater
+pub turned : (a b : Block) → network_order a b ≡ Less → network_order b a ≡ Greater
 turned a b less = order_total.antisymm b a ∙ ap ordering_reverse less
 
 turned-back : (a b : Block) → network_order a b ≡ Greater → network_order b a ≡ Less

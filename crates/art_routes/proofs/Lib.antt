@@ -1,3 +1,4 @@
+pub mod AggregateLemmas
 pub mod BitLemmas
 pub mod ByteLemmas
 pub mod CallLaws

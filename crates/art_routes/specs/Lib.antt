@@ -15,3 +15,5 @@ pub mod Changes
 pub mod Differences
 pub mod FreeNetworks
 pub mod FreeWalks
+pub mod Aggregates
+pub mod AggregateSteps

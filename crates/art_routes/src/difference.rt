@@ -106,8 +106,8 @@ fn order_of(network: &Network, other: &Network) -> Ordering
     network.cmp(other)
 }
 
-// Whether two values are equal.
-fn are_equal<V: PartialEq>(value: &V, other: &V) -> bool
+/// Whether two values are equal.
+pub(crate) fn are_equal<V: PartialEq>(value: &V, other: &V) -> bool
     ensures { result ≡ V.eq value.now other.now }
 {
     value == other

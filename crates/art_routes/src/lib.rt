@@ -4,6 +4,7 @@
 #![tactic(auto)]
 
 mod address;
+mod aggregate;
 mod children;
 mod covering;
 mod difference;
