@@ -3,7 +3,7 @@ their calls return.
 
 Inserts in random order (but of ascending numbers), look-ups in another, of absent keys too, a visit of all entries from
 either end, key and value, and of the values alone, a range of 100 entries from each hundredth key on, removals in a third
-order, and `pop_first` of all. Of fewer than 20,000 entries there are several maps, with 20,000 in all. Both maps take turns in each run, so their ratio says more than either time: the last row has its median, and
+order, and `pop_first` of all. Of fewer than 20,000 entries there are several maps, with 20,000 in all. What changes no map is called once before it is timed. Both maps take turns in each run, so their ratio says more than either time: the last row has its median, and
 in brackets the least and the greatest.
 
 Memory is the anonymous pages of a process with the entries beyond those of one that has the keys alone, and `peak` the
