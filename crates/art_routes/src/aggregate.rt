@@ -71,7 +71,7 @@ impl<V: Copy + PartialEq> RouteTable<V> {
     }
 
     // Removes a route that has the value of the longest one around it.
-    fn remove_covered(&mut self, network: &Network) -> Result<(), AllocError>
+    fn remove_repeated(&mut self, network: &Network) -> Result<(), AllocError>
         requires covered { IsCovered V.eq self.old network.now }
         ensures same_matches { (address : Address) → MatchAlike V.eq self.old self.new address }
         ensures fewer { OnOk result (length self.new < length self.old) }
@@ -101,9 +101,9 @@ impl<V: Copy + PartialEq> RouteTable<V> {
             Err(_) => return Err(AllocError),
         }
         self.routes_ascend();
-        self.remove_covered(left)?;
+        self.remove_repeated(left)?;
         self.routes_ascend();
-        self.remove_covered(right)?;
+        self.remove_repeated(right)?;
         Ok(())
     }
 
@@ -115,7 +115,7 @@ impl<V: Copy + PartialEq> RouteTable<V> {
         ensures fewer { OnOk result (FewerOr self.old self.new (λ routes. IsNeeded V.eq routes (network.now, value))) }
     {
         if self.parent_has(network, &value) {
-            return self.remove_covered(network);
+            return self.remove_repeated(network);
         }
         let Some(half) = self.half_has(network, &value) else {
             self.routes_ascend();

@@ -2,8 +2,8 @@ use Rattle.std.proofs.Common.{inr, rules}
 use Rattle.art_routes.proofs.AggregateLemmas.{alike-itself}
 use Rattle.art_routes.proofs.aggregate.RouteTable+V.step.Goals as goal
 
-pub remove_covered-requires : goal.remove_covered-requires
-remove_covered-requires g c =
+pub remove_repeated-requires : goal.remove_repeated-requires
+remove_repeated-requires g c =
     let (parent, above, same) = c.if-parent_has.ensures in
     (search rules, (search rules, (search rules, (search rules, (search rules, (search rules, (c.args.value, parent, c.requires.listed, above, inr same)))))))
 

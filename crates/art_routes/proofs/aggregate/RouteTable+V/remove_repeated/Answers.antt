@@ -1,7 +1,7 @@
 use Rattle.std.proofs.Common.{refl, subst, sym, length, ◌<◌}
 use Rattle.art_routes.specs.Aggregates.{MatchAlike}
 use Rattle.art_routes.proofs.AggregateLemmas.{alike-itself, removed-alike, without-fewer}
-use Rattle.art_routes.proofs.aggregate.RouteTable+V.remove_covered.Goals as goal
+use Rattle.art_routes.proofs.aggregate.RouteTable+V.remove_repeated.Goals as goal
 
 pub returns-in_err-remove-clause-same_matches : goal.returns-in_err-remove-clause-same_matches
 returns-in_err-remove-clause-same_matches g c = λ address.
