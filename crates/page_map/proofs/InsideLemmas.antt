@@ -69,7 +69,7 @@ module _ {K V : Type 0} (is_key : K → Type 0) (encoded : K → List ℕ) (comp
   pub inside-low : IsBehindSome place → text_order page.0 x ≢ Greater
   inside-low inside greater =
       let from : All (λ entry. text_order (encoded entry.0) page.0 ≢ Less) page.1 =
-          All-left (λ entry. text_order (encoded entry.0) page.0 ≢ Less) page.1 (entries_in right) (parted-at encoded head left page right parts).1 in
+      All-left (λ entry. text_order (encoded entry.0) page.0 ≢ Less) page.1 (entries_in right) (parted-at encoded head left page right parts).1 in
       never-above compare page.1 place at inside
       (above-query is_key encoded compare x law page.1 own-keys
       (All-weaker (λ entry. text_order (encoded entry.0) page.0 ≢ Less) (λ entry. text_order (encoded entry.0) x ≡ Greater)

@@ -19,7 +19,7 @@ returns-in-Some-clause-map g c =
     let old = c.args.tree.now.arena in let page = c.put_at.new.page in
     let head = c.args.head.now.entries in
     let spot : IsSpotInLeaf (cmp key) (encoded key) head old c.in-Some.leaf c.find_over-leaf.result.1 =
-        subst (λ leaf. IsSpotOver (cmp key) (encoded key) head old leaf c.find_over-leaf.result.1) c.in-Some.is c.find_over-leaf.ensures in
+    subst (λ leaf. IsSpotOver (cmp key) (encoded key) head old leaf c.find_over-leaf.result.1) c.in-Some.is c.find_over-leaf.ensures in
     let place = spot.here in
     let new = with_value_at old (slab_key c.in-Some.leaf) page in
     let was = ap (λ (p : _). p.entries) (c.page_mut.ensures.page place) in
@@ -37,7 +37,7 @@ returns-in-Some-clause-entries g c =
     let old = c.args.tree.now.arena in let page = c.put_at.new.page in
     let head = c.args.head.now.entries in
     let spot : IsSpotInLeaf (cmp key) (encoded key) head old c.in-Some.leaf c.find_over-leaf.result.1 =
-        subst (λ leaf. IsSpotOver (cmp key) (encoded key) head old leaf c.find_over-leaf.result.1) c.in-Some.is c.find_over-leaf.ensures in
+    subst (λ leaf. IsSpotOver (cmp key) (encoded key) head old leaf c.find_over-leaf.result.1) c.in-Some.is c.find_over-leaf.ensures in
     let place = spot.here in
     let new = with_value_at old (slab_key c.in-Some.leaf) page in
     let was = ap (λ (p : _). p.entries) (c.page_mut.ensures.page place) in
@@ -54,7 +54,7 @@ returns-in-Some-clause-same g c =
     let old = c.args.tree.now.arena in let page = c.put_at.new.page in
     let head = c.args.head.now.entries in
     let spot : IsSpotInLeaf (cmp key) (encoded key) head old c.in-Some.leaf c.find_over-leaf.result.1 =
-        subst (λ leaf. IsSpotOver (cmp key) (encoded key) head old leaf c.find_over-leaf.result.1) c.in-Some.is c.find_over-leaf.ensures in
+    subst (λ leaf. IsSpotOver (cmp key) (encoded key) head old leaf c.find_over-leaf.result.1) c.in-Some.is c.find_over-leaf.ensures in
     let place = spot.here in
     let new = with_value_at old (slab_key c.in-Some.leaf) page in
     let was = ap (λ (p : _). p.entries) (c.page_mut.ensures.page place) in
@@ -71,7 +71,7 @@ returns-in-Some-clause-old g c =
     let old = c.args.tree.now.arena in
     let head = c.args.head.now.entries in
     let spot : IsSpotInLeaf (cmp key) (encoded key) head old c.in-Some.leaf c.find_over-leaf.result.1 =
-        subst (λ leaf. IsSpotOver (cmp key) (encoded key) head old leaf c.find_over-leaf.result.1) c.in-Some.is c.find_over-leaf.ensures in
+    subst (λ leaf. IsSpotOver (cmp key) (encoded key) head old leaf c.find_over-leaf.result.1) c.in-Some.is c.find_over-leaf.ensures in
     let place = spot.here in
     let was = ap (λ (p : _). get_by (cmp key) p.entries) (c.page_mut.ensures.page place) in
     found-then (cmp key) c.put_at.result _ _ (was ∙ sym (value-of-page (cmp key) place.entry.1.entries (map_entries c.args.head.now.entries (pages_of old))
@@ -86,7 +86,7 @@ returns-in-Some-clause-absent g c =
     let old = c.args.tree.now.arena in
     let head = c.args.head.now.entries in
     let spot : IsSpotInLeaf (cmp key) (encoded key) head old c.in-Some.leaf c.find_over-leaf.result.1 =
-        subst (λ leaf. IsSpotOver (cmp key) (encoded key) head old leaf c.find_over-leaf.result.1) c.in-Some.is c.find_over-leaf.ensures in
+    subst (λ leaf. IsSpotOver (cmp key) (encoded key) head old leaf c.find_over-leaf.result.1) c.in-Some.is c.find_over-leaf.ensures in
     let place = spot.here in
     let was = ap (λ (p : _). get_by (cmp key) p.entries) (c.page_mut.ensures.page place) in
     err-then c.put_at.result c.put_at.ensures.absent (λ none. sym (was ∙ sym (value-of-page (cmp key) place.entry.1.entries (map_entries c.args.head.now.entries (pages_of old))
