@@ -1,12 +1,15 @@
 //! Route tables with 64-bit values.
-ghost use Rattle.std.specs.Prelude.{◌≡◌, ◌≢◌, ◌*◌, ◌/◌, ◌<◌, ℕ, true, false, [], None, IfErr, IfNone, IfOk, IfSome, MatchOption, Err, OnErr, OnOk, drop, get_or, length as list_length, min, take};
+ghost use Rattle.std.specs.Prelude.{◌≡◌, ◌≢◌, ◌*◌, ◌/◌, ◌<◌, ◌==◌, ℕ, true, false, [], None, IfErr, IfNone, IfOk, IfSome, MatchOption, Err, OnErr, OnOk, drop, get_or, length as list_length, min, take};
 ghost use Rattle.std.specs.Option.{option_map};
+ghost use Rattle.art_routes.specs.declared.address.Address.{Address};
+ghost use Rattle.art_routes.specs.Aggregates.{IsAggregated, MatchAlike};
 ghost use Rattle.art_routes.specs.Networks.{address_of, network_around};
-ghost use Rattle.art_routes.specs.Tables.{IsLongest, NoneContains, covering as covering_routes, put_route, value_of, without_route};
+ghost use Rattle.art_routes.specs.Removing.{without_covered};
+ghost use Rattle.art_routes.specs.Tables.{IsLongest, IsParent, NoneAround, NoneContains, covered as covered_routes, covering as covering_routes, put_route, value_of, without_route};
 ghost use Rattle.art_c_maps.specs.Entries.{begun_with, first_of, values_of};
 ghost use Rattle.art_c_routes.specs.Addresses.{address_in, is_address, is_network, is_width, network_in};
 ghost use Rattle.art_c_routes.specs.Found.{IsMatched, address_written, found_parts, lengths_of, routes_from};
-ghost use Rattle.art_c_routes.specs.Refusals.{IsRouteRefused};
+ghost use Rattle.art_c_routes.specs.Refusals.{IsRouteRefused, StopsRemoving};
 
 use crate::address::{address_at, address_from, network_from, write_address};
 use crate::refusal::Refusal;
@@ -145,6 +148,35 @@ impl NumberRoutes {
         }
     }
 
+    /// Removes the routes to a network and to parts of it, and returns how many there were. Memory is refused only where
+    /// there is one. Then the first of them may be gone: those behind these and all others are as they were.
+    pub fn remove_covered(&mut self, address: &[u8], length: u8) -> Result<usize, Refusal>
+        ensures count { IfOk result (λ count. count ≡ list_length (covered_routes (network_in address.now length) self.old)) }
+        ensures routes { OnOk result (self.new ≡ without_covered (network_in address.now length) self.old) }
+        ensures is_network { OnOk result (is_network address.now length ≡ true) }
+        ensures refusal_due { IfErr result (IsRouteRefused address.now length) }
+        ensures stopped { result ≡ Err Refusal.OutOfMemory → StopsRemoving (network_in address.now length) self.old self.new }
+        ensures same_routes { result ≡ Err Refusal.BadNetwork → self.new ≡ self.old }
+    {
+        let Some(network) = network_from(address, length) else {
+            return Err(Refusal::BadNetwork);
+        };
+        match self.table.remove_covered(&network) {
+            Ok(count) => Ok(count),
+            Err(_) => Err(Refusal::OutOfMemory),
+        }
+    }
+
+    /// Leaves fewer routes by which each address has the value that it had: none that has the value of the longest one
+    /// around it, and none to the right half of a network that has the value of that to the left one. After a refusal
+    /// some of this may be done: each address has the value that it had.
+    pub fn aggregate(&mut self) -> Result<(), AllocError>
+        ensures same_matches { (address : Address) → MatchAlike ◌==◌ self.old self.new address }
+        ensures aggregated { OnOk result (IsAggregated ◌==◌ self.new) }
+    {
+        self.table.aggregate()
+    }
+
     // The length and the value of the longest route that contains an address.
     fn longest(&self, address: IpAddr) -> Option<(u8, u64)>
         ensures { MatchOption result (NoneContains self.now (address_of address))
@@ -179,6 +211,32 @@ impl NumberRoutes {
             return Err(Refusal::BadNetwork);
         };
         Ok(self.longest(ip))
+    }
+
+    // The length and the value of the longest route to a network around this one.
+    fn parent_of(&self, network: &Network) -> Option<(u8, u64)>
+        ensures { MatchOption result (NoneAround self.now network.now)
+            (λ found. IsParent self.now network.now (network_around network.now.address found.0, found.1)) }
+    {
+        self.table.routes_ascend();
+        match self.table.parent(network) {
+            Some((around, value)) => Some((around.length(), *value)),
+            None => None,
+        }
+    }
+
+    /// The length and the value of the longest route to a network around this one, or None where there is none. Takes no
+    /// memory.
+    pub fn parent(&self, address: &[u8], length: u8) -> Result<Option<(u8, u64)>, Refusal>
+        ensures found { IfOk result (λ found. MatchOption found (NoneAround self.now (network_in address.now length))
+            (λ route. IsParent self.now (network_in address.now length) (network_around (address_in address.now) route.0, route.1))) }
+        ensures is_network { OnOk result (is_network address.now length ≡ true) }
+        ensures refusal_due { OnErr result (is_network address.now length ≡ false) }
+    {
+        let Some(network) = network_from(address, length) else {
+            return Err(Refusal::BadNetwork);
+        };
+        Ok(self.parent_of(&network))
     }
 
     /// Looks up many addresses of `width` bytes each, as [`longest_match`](Self::longest_match) does. Where no
