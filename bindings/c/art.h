@@ -36,7 +36,7 @@ extern "C" {
 
 #define ART_NONE 0u         /* done; there was no such entry */
 #define ART_SOME 1u         /* done; there was one, and it is written out */
-#define ART_NO_MEMORY 2u    /* nothing has changed */
+#define ART_NO_MEMORY 2u    /* nothing has changed, but where the call says so */
 #define ART_KEY_TOO_LONG 3u /* nothing has changed; the key has 2^32 bytes or more, each zero twice and 2 more */
 #define ART_SMALL_BUFFER 4u /* nothing has changed; there is an entry; its key has *key_len bytes, and none was written */
 #define ART_NO_MAP 5u       /* nothing has changed; the handle holds no map */
@@ -154,8 +154,8 @@ uint32_t art_u64_load(art_u64_map *map, const uint64_t *keys, size_t keys_len, c
 /* Routes: a value for each network. An address has `width` bytes, the highest first: 4 of IPv4, or 16 of IPv6; a network is
    an address and how many of its first bits are given, with no bit set behind these. Else the status is ART_BAD_NETWORK. IPv4
    and IPv6 never match each other. Networks of IPv4 come before those of IPv6; then they go by their addresses, and of two
-   with one address the shorter comes first. Only new, reserve, compact, insert where no route is to the network, and
-   remove where one is, may return ART_NO_MEMORY. */
+   with one address the shorter comes first. Only new, reserve, compact, insert where no route is to the network,
+   remove where one is, remove_covered where one is to it or to a part of it, and aggregate may return ART_NO_MEMORY. */
 uint32_t art_routes_new(art_routes_map *map);
 void art_routes_free(art_routes_map *map);
 size_t art_routes_len(const art_routes_map *map);
@@ -168,6 +168,14 @@ uint32_t art_routes_insert(art_routes_map *map, const uint8_t *address, size_t w
 /* The value of the route to this very network. */
 uint32_t art_routes_get(const art_routes_map *map, const uint8_t *address, size_t width, uint8_t length, uint64_t *value);
 uint32_t art_routes_remove(art_routes_map *map, const uint8_t *address, size_t width, uint8_t length, uint64_t *value);
+/* Removes the routes to a network and to parts of it: how many there were `count` says. ART_NONE, but for ART_BAD_NETWORK,
+   ART_NO_MAP and ART_NO_MEMORY. At ART_NO_MEMORY the first of them may be gone, and the call may be made again. */
+uint32_t art_routes_remove_covered(art_routes_map *map, const uint8_t *address, size_t width, uint8_t length,
+                                   size_t *count);
+/* Leaves fewer routes by which each address has the value that it had, and none where none contained it: none that has the
+   value of the longest one around it, and none to the right half of a network that has the value of that to the left one.
+   ART_NONE, ART_NO_MAP or ART_NO_MEMORY: some of this may then be done, and each address has the value that it had. */
+uint32_t art_routes_aggregate(art_routes_map *map);
 /* The longest route whose network contains an address: its network is the first `length` bits of that address. */
 uint32_t art_routes_longest_match(const art_routes_map *map, const uint8_t *address, size_t width, uint8_t *length,
                                   uint64_t *value);
@@ -177,6 +185,10 @@ uint32_t art_routes_longest_match(const art_routes_map *map, const uint8_t *addr
 uint32_t art_routes_longest_match_many(const art_routes_map *map, const uint8_t *addresses, size_t bytes, size_t width,
                                        uint8_t *lengths, size_t lengths_len, uint64_t *values, size_t values_len,
                                        size_t *count);
+/* The longest route to a network around this one, which is not this one itself: its network is the first `parent_length`
+   bits of the address. */
+uint32_t art_routes_parent(const art_routes_map *map, const uint8_t *address, size_t width, uint8_t length,
+                           uint8_t *parent_length, uint64_t *value);
 /* The first route at (inclusive) or after a network; the first of all from 0.0.0.0/0. Writes its address where that fits, else
    `width` alone, and the status is ART_SMALL_BUFFER: 16 bytes are enough, and `from` may be where the address is written. */
 uint32_t art_routes_next(const art_routes_map *map, const uint8_t *from, size_t from_width, uint8_t from_length,
@@ -339,6 +351,12 @@ static inline uint32_t art_routes_own_longest_match_many(const art_routes_map *m
                                          count);
 }
 #define art_routes_longest_match_many art_routes_own_longest_match_many
+static inline uint32_t art_routes_own_parent(const art_routes_map *map, const uint8_t *address, size_t width,
+                                             uint8_t length, uint8_t *parent_length, uint64_t *value) {
+    art_routes_map own = *map;
+    return art_routes_parent(&own, address, width, length, parent_length, value);
+}
+#define art_routes_parent art_routes_own_parent
 static inline uint32_t art_routes_own_next(const art_routes_map *map, const uint8_t *from, size_t from_width,
                                            uint8_t from_length, bool inclusive, uint8_t *address, size_t capacity,
                                            size_t *width, uint8_t *length, uint64_t *value) {

@@ -177,6 +177,73 @@ template <class Source> class RoutesBeside {
         CHECK(std::all_of(values.begin() + wanted, values.end(), [](uint64_t it) { return it == NO_VALUE; }));
     }
 
+    void parent() {
+        Network network = some_network();
+        uint32_t status = art_routes_parent(&map, network.address.data(), network.address.size(), network.length, &length, &value);
+        std::vector<Route> routes = network.is_network() ? around(network) : std::vector<Route>();
+        if (!routes.empty() && routes[0]->first.length == network.length) routes.erase(routes.begin());
+        if (routes.empty()) {
+            CHECK(status == (network.is_network() ? ART_NONE : ART_BAD_NETWORK) && length == NO_LENGTH && value == NO_VALUE);
+        } else {
+            CHECK(status == ART_SOME && length == routes[0]->first.length && value == routes[0]->second);
+        }
+    }
+
+    void remove_covered() {
+        Network network = some_network();
+        size_t count = NO_LEN, before = model.size();
+        uint32_t status = art_routes_remove_covered(&map, network.address.data(), network.address.size(), network.length, &count);
+        if (!network.is_network()) {
+            CHECK(status == ART_BAD_NETWORK && count == NO_LEN);
+            return;
+        }
+        for (Route at = model.begin(); at != model.end();) at = network.covers(at->first) ? model.erase(at) : std::next(at);
+        CHECK(status == ART_NONE && count == before - model.size());
+    }
+
+    // Another table, of few values: no route is left that is not needed, and each address has its value.
+    void aggregate() {
+        art_routes_map other = {};
+        Model small, fewer;
+        CHECK(art_routes_new(&other) == ART_NONE);
+        for (const auto &route : model) {
+            small[route.first] = route.second % 3;
+            CHECK(art_routes_insert(&other, route.first.address.data(), route.first.address.size(), route.first.length, route.second % 3, &value) == ART_NONE);
+        }
+        CHECK(art_routes_aggregate(&other) == ART_NONE && art_routes_len(&other) <= model.size());
+        uint8_t address[16] = {}, at = 0;
+        size_t width = 4;
+        for (bool first = true; art_routes_next(&other, address, width, at, first, address, 16, &width, &at, &value) == ART_SOME; first = false)
+            fewer[{std::vector<uint8_t>(address, address + width), at}] = value;
+        for (const auto &route : fewer) {
+            auto outer = longest_in(fewer, route.first, route.first.length);
+            CHECK(outer == fewer.end() || outer->second != route.second);
+            if (route.first.length == 0) continue;
+            Network half = route.first;
+            half.address[(half.length - 1) / 8] ^= 0x80 >> (half.length - 1) % 8;
+            auto beside = fewer.find(half);
+            CHECK(beside == fewer.end() || beside->second != route.second);
+        }
+        for (int i = 0; i < 100; i++) {
+            width = source.below(2) ? 4 : 16;
+            Network one{some_address(width), (uint8_t)(8 * width)};
+            auto wanted = longest_in(small, one, 8 * width + 1), found = longest_in(fewer, one, 8 * width + 1);
+            CHECK((wanted == small.end()) == (found == fewer.end()));
+            CHECK(wanted == small.end() || wanted->second == found->second);
+        }
+        art_routes_free(&other);
+        value = NO_VALUE;
+    }
+
+    // The longest of these routes that cover a network, of those that are shorter than this.
+    static Route longest_in(const Model &routes, const Network &network, size_t below) {
+        Route longest = routes.end();
+        for (Route at = routes.begin(); at != routes.end(); ++at)
+            if (at->first.length < below && at->first.covers(network) && (longest == routes.end() || longest->first.length < at->first.length))
+                longest = at;
+        return longest;
+    }
+
   public:
     explicit RoutesBeside(Source &choices) : source(choices) {
         CHECK(art_routes_new(&map) == ART_NONE);
@@ -207,7 +274,7 @@ template <class Source> class RoutesBeside {
     void call() {
         length = NO_LENGTH;
         value = NO_VALUE;
-        switch (source.below(16)) {
+        switch (source.below(18)) {
         case 0: case 1: case 2: case 3: {
             Network network = some_network();
             uint64_t put = source.number();
@@ -238,6 +305,12 @@ template <class Source> class RoutesBeside {
         case 13: case 14:
             covering();
             break;
+        case 15:
+            parent();
+            break;
+        case 16:
+            if (source.below(20) == 0) remove_covered();
+            break;
         default:
             switch (source.below(100)) {
             case 0:
@@ -249,6 +322,9 @@ template <class Source> class RoutesBeside {
                 break;
             case 2:
                 CHECK(art_routes_reserve(&map, source.below(100)) == ART_NONE);
+                break;
+            case 3:
+                aggregate();
                 break;
             default:
                 break;

@@ -81,6 +81,8 @@ static int without_routes(art_routes_map *map) {
     CHECK(art_routes_longest_match_many(map, address, 4, 4, lengths, 2, values, 2, &count) == ART_NO_MAP);
     CHECK(art_routes_next(map, address, 4, 8, true, out, 16, &width, &length, &value) == ART_NO_MAP);
     CHECK(art_routes_covering(map, address, 4, 8, lengths, 2, values, 2, &count) == ART_NO_MAP);
+    CHECK(art_routes_parent(map, address, 4, 8, &length, &value) == ART_NO_MAP && art_routes_parent(map, address, 4, 33, &length, &value) == ART_NO_MAP);
+    CHECK(art_routes_remove_covered(map, address, 4, 8, &count) == ART_NO_MAP && art_routes_aggregate(map) == ART_NO_MAP);
     CHECK(out[0] == 9 && length == 4 && lengths[0] == 3 && width == 5 && count == 8 && value == 7 && values[0] == 2);
     art_routes_free(map);
     return 0;
@@ -100,6 +102,7 @@ static int bad_networks(art_routes_map *map) {
         CHECK((art_routes_get(map, address, bytes, 16, &value) == ART_BAD_NETWORK) == !is_address);
         CHECK((art_routes_next(map, address, bytes, 16, false, out, 16, &width, &length, &value) == ART_BAD_NETWORK) == !is_address);
         CHECK((art_routes_covering(map, address, bytes, 16, lengths, 0, values, 0, &count) == ART_BAD_NETWORK) == !is_address);
+        CHECK((art_routes_parent(map, address, bytes, 16, &length, &value) == ART_BAD_NETWORK) == !is_address);
     }
     value = 7;
     /* A length that is too great, and a bit behind one. */

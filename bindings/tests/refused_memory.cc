@@ -159,6 +159,7 @@ static std::vector<Call> script() {
         look(ROUTE_CALL(size_t count; return art_routes_longest_match_many(&maps.routes, address, width, width, &length, 1, &maps.value, 1, &count);), at);
         look(ROUTE_CALL(uint8_t lengths[200]; uint64_t values[200]; size_t count;
                         return art_routes_covering(&maps.routes, address, width, length, lengths, 200, values, 200, &count);), at);
+        look(ROUTE_CALL(return art_routes_parent(&maps.routes, address, width, length, &length, &maps.value);), at);
         look(ROUTE_CALL(return art_routes_next(&maps.routes, address, width, length, true, maps.key, 16, &maps.len, &length, &maps.value);), at);
     }
     for (uint64_t i = 0; i < 90; i += 2) add(ROUTE_CALL(return art_routes_remove(&maps.routes, address, width, length, &maps.value);), i);

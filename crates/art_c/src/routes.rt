@@ -1,14 +1,18 @@
 //! The exports for route tables.
-ghost use Rattle.std.specs.Prelude.{◌≡◌, ◌≢◌, ◌*◌, ◌/◌, ◌<◌, ◌⊎◌, ◌↔◌, ℕ, true, false, [], None, Some, IfNone, IfSome, IsSome, drop, get_or, length as list_length, min, nat_le, take, if◌then◌else◌};
+ghost use Rattle.std.specs.Prelude.{◌≡◌, ◌≢◌, ◌*◌, ◌/◌, ◌<◌, ◌==◌, ◌⊎◌, ◌↔◌, ℕ, true, false, [], None, Some, IfNone, IfSome, IsSome, drop, get_or, length as list_length, min, nat_le, take, if◌then◌else◌};
 ghost use Rattle.std.specs.Option.{option_map};
+ghost use Rattle.art_routes.specs.declared.address.Address.{Address};
+ghost use Rattle.art_routes.specs.Aggregates.{IsAggregated, MatchAlike};
 ghost use Rattle.art_routes.specs.Networks.{network_around};
-ghost use Rattle.art_routes.specs.Tables.{IsLongest, NoneContains, covering, put_route, value_of, without_route};
+ghost use Rattle.art_routes.specs.Removing.{without_covered};
+ghost use Rattle.art_routes.specs.Tables.{IsLongest, IsParent, NoneAround, NoneContains, covered, covering, put_route, value_of, without_route};
 ghost use Rattle.art_c.specs.Handles.{entries_of};
 ghost use Rattle.art_c.specs.RouteStatuses.{IsRouted, IsUnrouted, length_in, route_status, route_value_in, width_or};
 ghost use Rattle.art_c.specs.Statuses.{ART_BAD_NETWORK, ART_HAS_MAP, ART_NONE, ART_NO_MAP, ART_NO_MEMORY, ART_SMALL_BUFFER, ART_SOME, IsDone, found_or, status_of};
 ghost use Rattle.art_c_maps.specs.Entries.{begun_with, first_of, values_of};
 ghost use Rattle.art_c_routes.specs.Addresses.{address_in, is_address, is_network, is_width, network_in};
 ghost use Rattle.art_c_routes.specs.Found.{IsMatched, address_written, lengths_of, routes_from};
+ghost use Rattle.art_c_routes.specs.Refusals.{StopsRemoving};
 
 use crate::numbers::value_status;
 use crate::routes_handle::RoutesHandle;
@@ -227,6 +231,63 @@ pub extern "C" fn art_routes_remove(
     }
 }
 
+/// Removes the routes to a network and to parts of it, and writes out how many there were.
+#[unsafe(no_mangle)]
+pub extern "C" fn art_routes_remove_covered(
+    table: &mut RoutesHandle,
+    address: &[u8],
+    length: u8,
+    count: &mut usize,
+) -> u32
+    ensures no_map { (result ≡ ART_NO_MAP) ↔ (table.old.held ≡ None) }
+    ensures bad_network { result ≢ ART_NO_MAP →
+        (result ≡ ART_BAD_NETWORK) ↔ (is_network address.now length ≡ false) }
+    ensures status { IsRouted result → result ≡ ART_NONE }
+    ensures routes { result ≡ ART_NONE →
+        table.new.held ≡ Some (without_covered (network_in address.now length) (entries_of table.old.held)) }
+    ensures count { result ≡ ART_NONE →
+        count.new ≡ list_length (covered (network_in address.now length) (entries_of table.old.held)) }
+    ensures stopped { result ≡ ART_NO_MEMORY → StopsRemoving (network_in address.now length)
+        (entries_of table.old.held) (entries_of table.new.held) }
+    ensures refused { (result ≡ ART_NO_MAP) ⊎ (result ≡ ART_BAD_NETWORK) → table.new.held ≡ table.old.held }
+    ensures same_count { IsUnrouted result → count.new ≡ count.old }
+    ensures held { IsSome table.old.held → IsSome table.new.held }
+{
+    let Some(held) = table.lent_mut() else {
+        return NO_MAP;
+    };
+    let removed = held.remove_covered(address, length);
+    match removed {
+        Ok(done) => {
+            *count = done;
+            NONE
+        }
+        Err(Refusal::BadNetwork) => BAD_NETWORK,
+        Err(Refusal::OutOfMemory) => NO_MEMORY,
+    }
+}
+
+/// Leaves fewer routes by which each address has the value that it had.
+#[unsafe(no_mangle)]
+pub extern "C" fn art_routes_aggregate(table: &mut RoutesHandle) -> u32
+    ensures no_map { (result ≡ ART_NO_MAP) ↔ (table.old.held ≡ None) }
+    ensures status { IsDone result → result ≡ ART_NONE }
+    ensures same_matches { result ≢ ART_NO_MAP → (address : Address) →
+        MatchAlike ◌==◌ (entries_of table.old.held) (entries_of table.new.held) address }
+    ensures aggregated { result ≡ ART_NONE → IsAggregated ◌==◌ (entries_of table.new.held) }
+    ensures held { IsSome table.old.held → IsSome table.new.held }
+    ensures refused { result ≡ ART_NO_MAP → table.new.held ≡ table.old.held }
+{
+    let Some(held) = table.lent_mut() else {
+        return NO_MAP;
+    };
+    let aggregated = held.aggregate();
+    match aggregated {
+        Ok(_) => NONE,
+        Err(_) => NO_MEMORY,
+    }
+}
+
 /// Finds the longest route whose network contains an address, and writes out its length and its value.
 #[unsafe(no_mangle)]
 pub extern "C" fn art_routes_longest_match(
@@ -253,6 +314,41 @@ pub extern "C" fn art_routes_longest_match(
     match found {
         Ok(Some((found_length, found_value))) => {
             *length = found_length;
+            *value = found_value;
+            SOME
+        }
+        Ok(None) => NONE,
+        Err(_) => BAD_NETWORK,
+    }
+}
+
+/// Finds the longest route to a network around this one, and writes out its length and its value.
+#[unsafe(no_mangle)]
+pub extern "C" fn art_routes_parent(
+    table: &mut RoutesView,
+    address: &[u8],
+    length: u8,
+    parent_length: &mut u8,
+    value: &mut u64,
+) -> u32
+    ensures no_map { (result ≡ ART_NO_MAP) ↔ (table.old.seen ≡ None) }
+    ensures bad_network { result ≢ ART_NO_MAP →
+        (result ≡ ART_BAD_NETWORK) ↔ (is_network address.now length ≡ false) }
+    ensures status { (result ≢ ART_NO_MAP) × (result ≢ ART_BAD_NETWORK) →
+        (result ≡ ART_SOME) ⊎ (result ≡ ART_NONE) }
+    ensures parent { result ≡ ART_SOME → IsParent (entries_of table.old.seen) (network_in address.now length)
+        (network_around (address_in address.now) parent_length.new, value.new) }
+    ensures none { result ≡ ART_NONE → NoneAround (entries_of table.old.seen) (network_in address.now length) }
+    ensures unchanged { result ≢ ART_SOME → (parent_length.new ≡ parent_length.old) × (value.new ≡ value.old) }
+    ensures same { table.new ≡ table.old }
+{
+    let Some(held) = table.lent() else {
+        return NO_MAP;
+    };
+    let found = held.parent(address, length);
+    match found {
+        Ok(Some((found_length, found_value))) => {
+            *parent_length = found_length;
             *value = found_value;
             SOME
         }
