@@ -67,7 +67,7 @@ class RandomCalls(unittest.TestCase):
         for call in range(calls):
             there = list(model)
             network = some_network(rng, there)
-            key, kind = given(rng, network), rng.randrange(12)
+            key, kind = given(rng, network), rng.randrange(14)
             if kind < 3 and len(model) < 60:
                 table[key] = model[network] = call
             elif kind < 5:
@@ -95,6 +95,15 @@ class RandomCalls(unittest.TestCase):
                 addresses = [some_address(rng) for _ in range(rng.randrange(12))]
                 due = [model[longest[0]] if longest else -1 for longest in (around(there, it) for it in addresses)]
                 self.assertEqual(table.get_many([given(rng, it) for it in addresses], -1), due)
+            elif kind == 11:
+                inside = [it for it in there if network in around([network], it) and it != network]
+                direct = sorted((it for it in inside if around(inside, it) == [it]), key=place)
+                self.assertEqual([read(it) for it in table.direct_children(key)], direct)
+            elif kind == 12 and rng.randrange(10) == 0:
+                inside = [it for it in there if network in around([network], it)]
+                self.assertEqual(table.remove_covered(key), len(inside))
+                for it in inside:
+                    del model[it]
             elif rng.randrange(100) == 0:
                 table.clear()
                 model.clear()
@@ -107,6 +116,88 @@ class RandomCalls(unittest.TestCase):
 
     def test_calls_do_what_a_list_does(self):
         self.same_calls(20261130, CALLS)
+
+
+class Aggregates(unittest.TestCase):
+    """Values that are equal, and not one object: so are those of `str` that are made while this runs."""
+
+    def some_table(self, rng, values):
+        networks = [some_network(rng, []) for _ in range(rng.randrange(30))]
+        # Halves of one network, and of halves of it.
+        for whole in networks[: rng.randrange(8)]:
+            if whole.prefixlen + 2 <= whole.max_prefixlen:
+                networks += rng.sample(list(whole.subnets(2)), rng.randrange(5))
+        return {it: rng.choice(values) for it in networks}
+
+    def test_one_value_is_collapsed_as_by_ipaddress(self):
+        rng = random.Random(41)
+        for _ in range(CALLS // 100):
+            model = self.some_table(rng, [7])
+            table = RouteTable(model)
+            table.aggregate()
+            due = [ipaddress.collapse_addresses(it for it in model if it.version == version) for version in (4, 6)]
+            self.assertEqual([read(it) for it in table], [*due[0], *due[1]])
+            self.assertEqual(set(table.values()), {7} if model else set())
+
+    def test_each_address_has_its_value(self):
+        rng = random.Random(42)
+        for _ in range(CALLS // 100):
+            model = self.some_table(rng, [1000, 2000, 3000])
+            table = RouteTable({it: str(value) for it, value in model.items()})
+            table.aggregate()
+            left = {read(it): value for it, value in table.items()}
+            self.assertEqual(len(table), len(left))
+            for it in model:
+                for ends in (int(it.network_address), int(it.broadcast_address)):
+                    for near in (ends - 1, ends, ends + 1):
+                        if 0 <= near < 2**it.max_prefixlen:
+                            address = type(it.network_address)(near)
+                            longest = around(model, address)
+                            self.assertEqual(table.get(address), str(model[longest[0]]) if longest else None)
+            for it, value in left.items():
+                outer = around(left, it)[1:]
+                self.assertTrue(not outer or left[outer[0]] != value)
+                if it.prefixlen:
+                    halves = list(it.supernet().subnets())
+                    self.assertFalse(all(left.get(half) == value for half in halves))
+
+    def test_values_stay_alive_once(self):
+        class Value:
+            def __init__(self, number):
+                self.number = number
+
+            def __eq__(self, other):
+                return self.number == other.number
+
+            def __hash__(self):
+                return self.number
+
+        table = RouteTable({"10.0.0.0/9": Value(1), "10.128.0.0/9": Value(1), "10.1.0.0/16": Value(2), "::/0": Value(2)})
+        values = [weakref.ref(value) for value in table.values()]
+        table.aggregate()
+        gc.collect()
+        self.assertEqual([(it, value.number) for it, value in table.items()], [("10.0.0.0/8", 1), ("10.1.0.0/16", 2), ("::/0", 2)])
+        self.assertEqual(table.remove_covered("0.0.0.0/0"), 2)
+        gc.collect()
+        self.assertEqual([it() is None for it in values], [True, True, True, False])
+
+    def test_values_that_have_no_hash(self):
+        table = RouteTable({"10.0.0.0/8": [], "10.1.0.0/16": []})
+        self.assertRaises(TypeError, table.aggregate)
+        self.assertEqual(len(table), 2)
+
+    def test_none_and_wrong_numbers(self):
+        table = RouteTable()
+        table.aggregate()
+        self.assertEqual((len(table), table.remove_covered("::/0"), table.direct_children("0.0.0.0/0")), (0, 0, []))
+        table["10.0.0.0/8"] = 1
+        for numbers in ((), (1, 2)):
+            self.assertRaises(RuntimeError, table._aggregated, numbers)
+        self.assertRaises(TypeError, table._aggregated, ("1",))
+        self.assertRaises(OverflowError, table._aggregated, (-1,))
+        self.assertRaises(ValueError, table.remove_covered, "10.0.0.1/8")
+        self.assertRaises(ValueError, table.direct_children, "10.0.0.1/8")
+        self.assertEqual(table.items(), [("10.0.0.0/8", 1)])
 
 
 @unittest.skipIf(radix is None, "there is no python3-radix")

@@ -319,6 +319,23 @@ class RouteTable(_core.Routes):
         inside = self._walk(_KEYS, network)
         return list(inside)[1 if self.has_key(network) else 0 :]
 
+    def aggregate(self):
+        """Leaves fewer routes by which each address has the value that it had, or one that is equal, and none where none
+        contained it: none that has the value of the longest one around it, and no two with one value to the halves of a
+        network. Values have to be hashable. Where memory is refused, or a signal is handled, some of this may be done, and each
+        address has the value that it had."""
+        items, first = self.items(), {}
+        numbers = tuple(first.setdefault(value, at) for at, (_, value) in enumerate(items))
+        fewer = dict(self._aggregated(numbers))
+        before = {network: number for (network, _), number in zip(items, numbers)}
+        for network, number in fewer.items():
+            if before.get(network) != number:
+                self[network] = items[number][1]
+        # Those around others come first: so the longest of the old ones that contain an address is the last to go.
+        for network in before:
+            if network not in fewer:
+                self.pop(network, None)
+
     def copy(self):
         return type(self)(self)
 

@@ -331,15 +331,13 @@ static PyObject *routes_has_key(Routes *self, PyObject *key) {
 
 static PyObject *routes_parent(Routes *self, PyObject *key) {
     Net net;
-    uint8_t lengths[2];
-    uint64_t places[2];
-    size_t count = 0;
+    uint8_t length;
+    uint64_t place;
     if (read_net(key, &net) < 0) return NULL;
-    uint32_t status = art_routes_covering(&self->table, net.address, net.width, (uint8_t)net.length, lengths, 2, places, 2, &count);
-    if (route_found(status, key) < 0) return NULL;
-    size_t at = count > 0 && lengths[0] == net.length;
-    if (at >= count) Py_RETURN_NONE;
-    cut(&net, lengths[at]);
+    int found = route_found(art_routes_parent(&self->table, net.address, net.width, (uint8_t)net.length, &length, &place), key);
+    if (found < 0) return NULL;
+    if (found == 0) Py_RETURN_NONE;
+    cut(&net, length);
     return text_of(&net);
 }
 
@@ -358,6 +356,81 @@ static PyObject *routes_pop(Routes *self, PyObject *const *arguments, Py_ssize_t
     }
     PyErr_SetObject(PyExc_KeyError, arguments[0]);
     return NULL;
+}
+
+/* Sets all bits of an address behind its first ones: the last address of a network. */
+static void go_to_last(Net *net) {
+    for (unsigned at = 0; at < net->width; at++) {
+        unsigned kept = net->length > 8 * at ? net->length - 8 * at : 0;
+        if (kept < 8) net->address[at] |= (uint8_t)(0xFFu >> kept);
+    }
+    net->length = bits_of(net);
+}
+
+/* The next route from a network on, and its place: false where there is none. */
+static bool next_route(art_routes_map *table, Net *at, bool inclusive, uint64_t *place) {
+    uint8_t length = 0;
+    uint32_t status = art_routes_next(table, at->address, at->width, (uint8_t)at->length, inclusive, at->address, 16, &at->width, &length, place);
+    at->length = length;
+    return status == ART_SOME;
+}
+
+static PyObject *routes_direct_children(Routes *self, PyObject *key) {
+    Net within;
+    uint64_t place;
+    if (read_net(key, &within) < 0 ||
+        route_found(art_routes_get(&self->table, within.address, within.width, (uint8_t)within.length, &place), key) < 0)
+        return NULL;
+    PyObject *texts = PyList_New(0);
+    Net at = within;
+    while (texts && next_route(&self->table, &at, false, &place) && covers(&within, at)) {
+        PyObject *text = text_of(&at);
+        if (!text || PyList_Append(texts, text) < 0) Py_CLEAR(texts);
+        Py_XDECREF(text);
+        go_to_last(&at);
+    }
+    return texts;
+}
+
+/* The library says how many routes are gone: of those inside the network the first ones. Their values are let go once the
+   table is whole. */
+static PyObject *routes_remove_covered(Routes *self, PyObject *key) {
+    Net within;
+    uint64_t place;
+    size_t count = 0, inside = 0, room = 0;
+    if (read_net(key, &within) < 0 ||
+        route_found(art_routes_get(&self->table, within.address, within.width, (uint8_t)within.length, &place), key) < 0)
+        return NULL;
+    uint64_t *places = NULL; /* and then the values */
+    Net at = within;
+    for (bool begun = false; next_route(&self->table, &at, !begun, &place) && covers(&within, at); begun = true) {
+        if (inside == room) {
+            room = room ? 2 * room : 8;
+            uint64_t *more = PyMem_Realloc(places, room * sizeof *places);
+            if (!more) {
+                PyMem_Free(places);
+                refused(ART_NO_MEMORY);
+                return NULL;
+            }
+            places = more;
+        }
+        places[inside++] = place;
+    }
+    uint32_t status = art_routes_remove_covered(&self->table, within.address, within.width, (uint8_t)within.length, &count);
+    size_t gone = (size_t)self->count - art_routes_len(&self->table);
+    for (size_t item = 0; item < gone; item++) {
+        size_t free_place = (size_t)places[item];
+        places[item] = (uintptr_t)self->values[free_place];
+        free_at(self, free_place);
+    }
+    self->count -= (Py_ssize_t)gone;
+    for (size_t item = 0; item < gone; item++) Py_DECREF((PyObject *)(uintptr_t)places[item]);
+    PyMem_Free(places);
+    if (status != ART_NONE) {
+        route_found(status, key);
+        return NULL;
+    }
+    return PyLong_FromSize_t(count);
 }
 
 /* The most addresses that are looked up in one call of the library. */
@@ -418,6 +491,47 @@ static PyObject *routes_clear(Routes *self, PyObject *Py_UNUSED(none)) {
 
 static PyObject *routes_size(Routes *self, PyObject *Py_UNUSED(none)) {
     return PyLong_FromSize_t(sizeof *self + self->room * sizeof *self->values);
+}
+
+/* The routes of a table, each as a pair of its network and its number. */
+static PyObject *numbered_routes(art_routes_map *table) {
+    PyObject *routes = PyList_New(0);
+    Net at = {{0}, 4, 0};
+    uint64_t number;
+    for (bool begun = false; routes && next_route(table, &at, !begun, &number); begun = true) {
+        PyObject *text = text_of(&at), *route = text ? Py_BuildValue("NK", text, (unsigned long long)number) : NULL;
+        if (!route || PyList_Append(routes, route) < 0) Py_CLEAR(routes);
+        Py_XDECREF(route);
+    }
+    return routes;
+}
+
+/* _aggregated(numbers): given one number for each route in order, fewer routes by which each address has the number that it
+   had. This table stays as it is. */
+static PyObject *routes_aggregated(Routes *self, PyObject *arguments) {
+    PyObject *numbers, *routes = NULL;
+    if (!PyArg_ParseTuple(arguments, "O!", &PyTuple_Type, &numbers)) return NULL;
+    art_routes_map other = {0};
+    uint32_t status = art_routes_new(&other);
+    Net at = {{0}, 4, 0};
+    uint64_t place, before;
+    Py_ssize_t given = 0, size = PyTuple_Size(numbers);
+    for (; status <= ART_SOME && given < size && next_route(&self->table, &at, given == 0, &place); given++) {
+        unsigned long long number = PyLong_AsUnsignedLongLong(PyTuple_GetItem(numbers, given));
+        status = art_routes_insert(&other, at.address, at.width, (uint8_t)at.length, number, &before);
+    }
+    if (status <= ART_SOME) status = art_routes_aggregate(&other);
+    if (status > ART_SOME) {
+        refused(status);
+    } else if (PyErr_Occurred()) {
+        /* of a number */
+    } else if (given < size || given < self->count) {
+        PyErr_SetString(PyExc_RuntimeError, "the table has changed");
+    } else {
+        routes = numbered_routes(&other);
+    }
+    art_routes_free(&other);
+    return routes;
 }
 
 /* ---- walks */
@@ -537,10 +651,13 @@ static PyMethodDef routes_methods[] = {
     {"get_key", (PyCFunction)routes_get_key, METH_O, "The network of the longest route around an address or a network, or None."},
     {"has_key", (PyCFunction)routes_has_key, METH_O, "Whether there is a route to this very network."},
     {"parent", (PyCFunction)routes_parent, METH_O, "The network of the longest route around a network, but for the one to it, or None."},
+    {"direct_children", (PyCFunction)routes_direct_children, METH_O, "The networks of the routes to parts of a network with none between, in order, in a list."},
+    {"remove_covered", (PyCFunction)routes_remove_covered, METH_O, "Removes the route to a network and those inside it, and returns how many there were."},
     {"pop", (PyCFunction)(void (*)(void))routes_pop, METH_FASTCALL, "Removes the route to this very network and returns its value, else the default, else raises KeyError."},
     {"clear", (PyCFunction)routes_clear, METH_NOARGS, "Removes all routes."},
     {"__sizeof__", (PyCFunction)routes_size, METH_NOARGS, "The memory of the table, without the library's and the values."},
     {"_walk", (PyCFunction)routes_walk, METH_VARARGS, NULL},
+    {"_aggregated", (PyCFunction)routes_aggregated, METH_VARARGS, NULL},
     {NULL, NULL, 0, NULL},
 };
 

@@ -125,6 +125,15 @@ impl Network {
         Network { address, length }
     }
 
+    /// The last address, as a network of all its bits.
+    pub(crate) fn last(&self) -> Self {
+        let behind = u32::from(self.length);
+        match self.address {
+            IpAddr::V4(ip) => Ipv4Addr::from_bits(ip.to_bits() | u32::MAX.checked_shr(behind).unwrap_or(0)).into(),
+            IpAddr::V6(ip) => Ipv6Addr::from_bits(ip.to_bits() | u128::MAX.checked_shr(behind).unwrap_or(0)).into(),
+        }
+    }
+
     /// The network of the first bits of this one, of which it has as many.
     pub(crate) fn around(&self, length: u8) -> Self {
         Network { address: begun(self.address, length), length }

@@ -186,6 +186,22 @@ extern "C" {
         length: u8,
         value: *mut u64,
     ) -> u32;
+    pub(crate) fn art_routes_remove_covered(
+        map: *mut RawMap,
+        address: *const u8,
+        width: usize,
+        length: u8,
+        count: *mut usize,
+    ) -> u32;
+    pub(crate) fn art_routes_aggregate(map: *mut RawMap) -> u32;
+    pub(crate) fn art_routes_parent(
+        map: *mut RawMap,
+        address: *const u8,
+        width: usize,
+        length: u8,
+        parent_length: *mut u8,
+        value: *mut u64,
+    ) -> u32;
     pub(crate) fn art_routes_next(
         map: *mut RawMap,
         from: *const u8,

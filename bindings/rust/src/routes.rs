@@ -2,7 +2,9 @@ use crate::chain::{address, Chain};
 use crate::network::Network;
 use crate::raw::{self, RawMap};
 use crate::refusal::{found, granted, Refusal};
-use std::iter::FusedIterator;
+use std::collections::HashMap;
+use std::hash::Hash;
+use std::iter::{self, FusedIterator};
 use std::marker::PhantomData;
 use std::{fmt, mem};
 
@@ -151,6 +153,31 @@ impl<V> RouteTable<V> {
         Ok(found(status)?.then(|| unsafe { self.values.take(word) }))
     }
 
+    /// Removes the route to a network and those to its parts, and returns how many there were.
+    pub fn remove_covered(&mut self, network: Network) -> usize {
+        granted(self.try_remove_covered(network))
+    }
+
+    /// The same, where memory is found, which may be needed where there is such a route. Else the first of them may be
+    /// gone, and the call may be made again.
+    pub fn try_remove_covered(&mut self, network: Network) -> Result<usize, Refusal> {
+        let mut cursor = Cursor::within(network);
+        let words: Vec<u64> = iter::from_fn(|| cursor.next(self)).map(|(_, word)| word).collect();
+        let ((octets, width), before, mut count) = (network.octets(), self.len(), 0);
+        let status = unsafe {
+            raw::art_routes_remove_covered(&mut self.raw, octets.as_ptr(), width, network.length(), &mut count)
+        };
+        // The table is whole before a value's own drop, which may panic.
+        let mut gone = Chain::default();
+        for word in &words[..before - self.len()] {
+            // SAFETY: the table does not have it any more: of these routes the first are gone, and no others.
+            unsafe { self.values.move_to(&mut gone, *word) }
+        }
+        drop(gone);
+        found(status)?;
+        Ok(count)
+    }
+
     // Writes the lengths and the words of the routes around a network, the longest first. Returns how many.
     fn around(&self, network: Network, lengths: &mut [u8], words: &mut [u64]) -> usize {
         let ((octets, width), mut count) = (network.octets(), 0);
@@ -198,6 +225,16 @@ impl<V> RouteTable<V> {
         self.cover(network).next()
     }
 
+    /// The longest route to a network around this one, which is not this one itself.
+    pub fn parent(&self, network: Network) -> Option<(Network, &V)> {
+        let ((octets, width), mut length, mut word) = (network.octets(), 0, 0);
+        let status = unsafe {
+            raw::art_routes_parent(&mut self.own(), octets.as_ptr(), width, network.length(), &mut length, &mut word)
+        };
+        // SAFETY: the table is borrowed as long.
+        granted(found(status)).then(|| (network.around(length), unsafe { &*address(word) }))
+    }
+
     /// The routes that contain an address, or cover a network, from the shortest to the longest.
     pub fn cover(&self, network: Network) -> Cover<'_, V> {
         let mut cover =
@@ -209,6 +246,12 @@ impl<V> RouteTable<V> {
     /// The route to a network and those to its parts, in order.
     pub fn children(&self, network: Network) -> Iter<'_, V> {
         Iter { table: self, cursor: Cursor::within(network) }
+    }
+
+    /// The routes to parts of a network with none between, in order: those of which it is the [`parent`](Self::parent), or
+    /// would be if it had a route. Each takes one call, however many routes are inside it.
+    pub fn direct_children(&self, network: Network) -> Iter<'_, V> {
+        Iter { table: self, cursor: Cursor::directly_within(network) }
     }
 
     /// All routes, in order.
@@ -232,20 +275,72 @@ impl<V> RouteTable<V> {
     }
 }
 
+impl<V: Clone + Eq + Hash> RouteTable<V> {
+    /// Leaves fewer routes by which each address has the value that it had, and none where none contained it: none that has
+    /// the value of the longest one around it, and no two with one value to the halves of a network.
+    ///
+    /// ```
+    /// use verified_art::RouteTable;
+    ///
+    /// let routes = [("10.0.0.0/9", "a"), ("10.128.0.0/9", "a"), ("10.1.0.0/16", "a"), ("10.2.0.0/16", "b")];
+    /// let mut routes: RouteTable<_> = routes.map(|(text, value)| (text.parse().unwrap(), value)).into();
+    /// routes.aggregate();
+    /// assert_eq!(format!("{routes:?}"), r#"{10.0.0.0/8: "a", 10.2.0.0/16: "b"}"#);
+    /// ```
+    pub fn aggregate(&mut self) {
+        granted(self.try_aggregate());
+    }
+
+    /// The same, where memory is found for another table.
+    pub fn try_aggregate(&mut self) -> Result<(), Refusal> {
+        *self = self.aggregated()?;
+        Ok(())
+    }
+
+    fn aggregated(&self) -> Result<Self, Refusal> {
+        // The library compares numbers: each value has that of the first one that is equal. The words of this table are
+        // these numbers, so nothing is asked for a value of it.
+        let mut numbered = RouteTable::<()>::try_new()?;
+        let (mut numbers, mut values) = (HashMap::new(), Vec::new());
+        for (network, value) in self {
+            let number = *numbers.entry(value).or_insert_with(|| {
+                values.push(value);
+                values.len() as u64 - 1
+            });
+            let ((octets, width), mut before) = (network.octets(), 0);
+            found(unsafe {
+                raw::art_routes_insert(&mut numbered.raw, octets.as_ptr(), width, network.length(), number, &mut before)
+            })?;
+        }
+        found(unsafe { raw::art_routes_aggregate(&mut numbered.raw) })?;
+        let (mut fewer, mut cursor) = (RouteTable::try_new()?, Cursor::all());
+        while let Some((network, number)) = cursor.next(&numbered) {
+            fewer.try_put(network, values[number as usize].clone()).map_err(|(_, refusal)| refusal)?;
+        }
+        Ok(fewer)
+    }
+}
+
 /// A place among the routes: the first one at a network, or after it.
 struct Cursor {
     from: Option<(Network, bool)>,
     within: Option<Network>,
+    // Whether to go on behind the parts of a network.
+    skips_parts: bool,
 }
 
 impl Cursor {
     fn all() -> Self {
         let first = Network::truncated([0; 4], 0).expect("0.0.0.0/0 is a network");
-        Cursor { from: Some((first, true)), within: None }
+        Cursor { from: Some((first, true)), within: None, skips_parts: false }
     }
 
     fn within(network: Network) -> Self {
-        Cursor { from: Some((network, true)), within: Some(network) }
+        Cursor { from: Some((network, true)), within: Some(network), skips_parts: false }
+    }
+
+    fn directly_within(network: Network) -> Self {
+        Cursor { from: Some((network, false)), within: Some(network), skips_parts: true }
     }
 
     // The route at the cursor, which moves behind it.
@@ -274,7 +369,7 @@ impl Cursor {
         if self.within.is_some_and(|within| !within.covers(&network)) {
             return None;
         }
-        self.from = Some((network, false));
+        self.from = Some((if self.skips_parts { network.last() } else { network }, false));
         Some((network, word))
     }
 }

@@ -52,7 +52,7 @@ fn a_table_does_what_a_scan_does() {
     let mut model = BTreeMap::<Network, String>::new();
     for _ in 0..100_000 {
         let at = some_network(&mut random, &model);
-        match random.below(14) {
+        match random.below(17) {
             0..=3 => {
                 let value = random.next().to_string();
                 assert_eq!(table.insert(at, value.clone()), model.insert(at, value));
@@ -89,6 +89,22 @@ fn a_table_does_what_a_scan_does() {
                 let inside = model.iter().filter(|(it, _)| is_in(it, &at)).map(|(it, value)| (*it, value));
                 assert!(table.children(at).eq(inside));
             }
+            13 => {
+                let mut around: Vec<_> = model.iter().filter(|(it, _)| is_in(&at, it) && **it != at).collect();
+                around.sort_by_key(|(it, _)| it.length());
+                assert_eq!(table.parent(at), around.last().map(|(it, value)| (**it, *value)));
+            }
+            14 => {
+                let parts: Vec<_> = model.keys().filter(|it| is_in(it, &at) && **it != at).copied().collect();
+                let is_direct = |part: &Network| parts.iter().all(|it| it == part || !is_in(part, it));
+                let direct = model.iter().filter(|(it, _)| parts.contains(it) && is_direct(it));
+                assert!(table.direct_children(at).eq(direct.map(|(it, value)| (*it, value))));
+            }
+            15 if random.below(10) == 0 => {
+                let before = model.len();
+                model.retain(|it, _| !is_in(it, &at));
+                assert_eq!(table.remove_covered(at), before - model.len());
+            }
             _ => match random.below(200) {
                 0 => {
                     table.clear();
@@ -109,6 +125,62 @@ fn a_table_does_what_a_scan_does() {
     assert!(table.iter().eq(model.iter().map(|(it, value)| (*it, value))));
     assert!(table.keys().eq(model.keys().copied()) && table.values().eq(model.values()));
     assert_eq!(table.clone(), table);
+}
+
+#[test]
+fn nested_routes() {
+    let texts = ["10.0.0.0/8", "10.1.0.0/16", "10.1.2.0/24", "10.2.0.0/16", "10.255.255.255", "::/0", "2001:db8::/32"];
+    let mut table: RouteTable<usize> = texts.into_iter().enumerate().map(|(at, text)| (network(text), at)).collect();
+    let direct =
+        |table: &RouteTable<usize>, text| table.direct_children(network(text)).map(|(_, at)| *at).collect::<Vec<_>>();
+    assert_eq!(direct(&table, "0.0.0.0/0"), [0]);
+    assert_eq!(direct(&table, "10.0.0.0/8"), [1, 3, 4]);
+    assert_eq!(direct(&table, "10.1.0.0/16"), [2]);
+    assert_eq!(direct(&table, "10.255.255.255"), []);
+    assert_eq!(direct(&table, "::/0"), [6]);
+    assert_eq!(table.parent(network("10.1.2.0/24")), Some((network("10.1.0.0/16"), &1)));
+    assert_eq!(table.parent(network("10.1.2.3")), Some((network("10.1.2.0/24"), &2)));
+    assert_eq!(table.parent(network("10.0.0.0/8")), None);
+    assert_eq!(table.parent(network("::/0")), None);
+    assert_eq!(table.remove_covered(network("10.1.0.0/16")), 2);
+    assert_eq!(table.remove_covered(network("10.1.0.0/16")), 0);
+    assert_eq!(direct(&table, "10.0.0.0/8"), [3, 4]);
+    assert_eq!(table.remove_covered(network("0.0.0.0/0")), 3);
+    assert_eq!((table.len(), table.remove_covered(network("::/0")), table.len()), (2, 2, 0));
+}
+
+#[test]
+fn aggregated_tables_match_as_before() {
+    let mut random = Random(41);
+    for _ in 0..2000 {
+        let mut model = BTreeMap::<Network, String>::new();
+        for _ in 0..random.below(40) {
+            // Often the other half of a network that is there.
+            let at = some_network(&mut random, &model);
+            let length = at.length().saturating_sub(random.below(2) as u8);
+            let at = Network::truncated(at.address(), length).unwrap();
+            let half = Network::truncated(at.address(), at.length() + u8::from(at.length() < 32)).unwrap();
+            model.insert(if random.coin() { at } else { half }, random.below(3).to_string());
+        }
+        let mut table: RouteTable<String> = model.iter().map(|(it, value)| (*it, value.clone())).collect();
+        table.aggregate();
+        assert!(table.len() <= model.len());
+        for _ in 0..100 {
+            let address = some_address(&mut random);
+            let longest = model.iter().filter(|(it, _)| it.contains(address)).max_by_key(|(it, _)| it.length());
+            assert_eq!(table.get_lpm(address.into()).map(|(_, value)| value), longest.map(|(_, value)| value));
+        }
+        for (it, value) in &table {
+            assert_ne!(table.parent(it).map(|(_, outer)| outer), Some(value));
+            if it.length() > 0 {
+                let whole = Network::truncated(it.address(), it.length() - 1).unwrap();
+                let same = table.iter().filter(|(half, other)| {
+                    half.length() == it.length() && is_in(half, &whole) && *other == value
+                });
+                assert_eq!(same.count(), 1);
+            }
+        }
+    }
 }
 
 #[test]
@@ -185,6 +257,17 @@ fn a_drop_that_panics_leaves_a_table_without_routes() {
     table.insert([1, 0, 0, 0].into(), Counted(&drops, false));
     drop(table);
     assert_eq!(drops.get(), 101);
+}
+
+#[test]
+fn a_drop_that_panics_leaves_a_table_without_what_is_removed() {
+    let drops = Cell::new(0);
+    let mut table: RouteTable<Counted<'_>> =
+        (0..100u8).map(|at| ([at, 0, 0, 0].into(), Counted(&drops, at == 10))).collect();
+    assert!(catch_unwind(AssertUnwindSafe(|| table.remove_covered(network("0.0.0.0/2")))).is_err());
+    assert_eq!((drops.get(), table.len(), table.iter().count()), (64, 36, 36));
+    drop(table);
+    assert_eq!(drops.get(), 100);
 }
 
 #[test]
