@@ -13,8 +13,8 @@ use Rattle.std.proofs.lemmas.List.Elements.{All-head, All-tail}
 use Rattle.art_bytes.specs.Text.{text_order}
 use Rattle.art_tree.specs.Entries.{put_entry, without_text}
 use Rattle.art_tree.specs.Refusals.{texts_of}
-use Rattle.art_map.specs.Entries.{entry_with}
-use Rattle.art_map.specs.Ranges.{entries_above as text_entries_above, entries_below as text_entries_below, entries_from as text_entries_from, entries_up_to as text_entries_up_to, entries_within, is_from, is_up_to}
+use Rattle.leaf_map.specs.Entries.{entry_with}
+use Rattle.leaf_map.specs.Ranges.{entries_above as text_entries_above, entries_below as text_entries_below, entries_from as text_entries_from, entries_up_to as text_entries_up_to, entries_within, is_from, is_up_to}
 use Rattle.art_c_maps.specs.Entries.{entries_from, entries_read, entries_to, put, value_of, without}
 
 and-true : (b : Bool) → (b && true) ≡ b

@@ -9,7 +9,7 @@ ghost use Rattle.art_c_maps.specs.Unescaped.{unescaped, written};
 use crate::bytes_map::Word;
 use crate::unescaped::{unescaped_begins, unescaped_len, write_unescaped};
 use art_bytes::AsBytes;
-use art_map::Iter;
+use leaf_map::Iter;
 
 // The entry that is next in this direction.
 fn next_entry<'a>(

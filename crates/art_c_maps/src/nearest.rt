@@ -3,11 +3,11 @@ ghost use Rattle.std.specs.Prelude.{◌≡◌, if◌then◌else◌};
 ghost use Rattle.std.specs.Option.{option_map};
 ghost use Rattle.std.specs.Ordering.{is_ge, is_gt, is_le, is_lt};
 ghost use Rattle.art_bytes.specs.Text.{text_order};
-ghost use Rattle.art_map.specs.Ranges.{entries_above, entries_below, entries_from, entries_up_to, is_from, is_up_to};
+ghost use Rattle.leaf_map.specs.Ranges.{entries_above, entries_below, entries_from, entries_up_to, is_from, is_up_to};
 ghost use Rattle.art_c_maps.specs.Entries.{first_of, last_of};
 
 use art_bytes::AsBytes;
-use art_map::ArtMap;
+use leaf_map::ArtMap;
 use std::ops::Bound;
 
 /// The value of an entry that was replaced.

@@ -1,43 +1,71 @@
--- Entries within two bounds are those that a range of std has.
-use Rattle.art_map.proofs.Names.{◌≡◌, ◌∙◌, ℕ, Bool, true, false, ◌&&◌, List, Some, refl, ap, nat_list_cmp_total, is_ge, is_gt, is_le, is_lt, ordering_reverse, bound_map, bounds_contain, is_from_start, is_up_to_end, Ordering, Less, Equal, Greater, Bound, Included, Excluded, Unbounded, text_order, entries_in, entries_within, is_from, is_up_to, filter_agree}
+-- Bounds of ranges: their gaps, and the words that std has for them.
+use Rattle.std.proofs.Common.{◌≡◌, ℕ, Bool, true, false, not, ◌&&◌, List, [], All, length, take, drop, filter, refl, sym, ap, subst, arith}
+use Rattle.std.proofs.lemmas.List.{drop_all}
+use Rattle.std.proofs.lemmas.List.Elements.{All-nil, filter_agree}
+use Rattle.std.specs.BTreeMap.Range.{entries_between, is_from_start, is_past_end}
 use Rattle.std.specs.Borrow.{Bor}
+use Rattle.std.specs.Range.Bound.{bound_map}
+use Rattle.std.specs.Ordering.{is_eq, is_le, ordering_then}
+use Rattle.std.specs.declared.cmp.Ordering.{Ordering}
+use Rattle.std.specs.declared.cmp.Ordering.TheVariants.{Less, Equal, Greater}
+use Rattle.std.specs.declared.ops.Bound.{Bound}
+use Rattle.std.specs.declared.ops.Bound.TheVariants.{Included, Excluded, Unbounded}
+use Rattle.art_map.specs.Gaps.{is_behind}
+use Rattle.art_map.specs.Ranges.{is_from, is_past}
+use Rattle.art_map.specs.Seats.{IsGapOf}
 
-ge-reversed : (o : Ordering) → is_ge (ordering_reverse o) ≡ is_le o
-ge-reversed Less = refl
-ge-reversed Equal = refl
-ge-reversed Greater = refl
+-- the gap of a bound is that of its query
+module _ {Q K V : Type 0} (compare : Q → K → Ordering) (bound : Bound Q) (entries : List (K × V)) (place : ℕ) where
+  abbrev IsStart : Bound Q → Type 0
+  IsStart bound = IsGapOf (λ (entry : K × V). is_from compare bound entry.0) entries place
 
-gt-reversed : (o : Ordering) → is_gt (ordering_reverse o) ≡ is_lt o
-gt-reversed Less = refl
-gt-reversed Equal = refl
-gt-reversed Greater = refl
+  abbrev IsEnd : Bound Q → Type 0
+  IsEnd bound = IsGapOf (λ (entry : K × V). is_past compare bound entry.0) entries place
 
-both-turned : (a b : Bool) → (a && b) ≡ (b && a)
-both-turned true true = refl
-both-turned true false = refl
-both-turned false true = refl
-both-turned false false = refl
+  abbrev IsGapBy : Q → Bool → Type 0
+  IsGapBy query after = IsGapOf (λ (entry : K × V). is_behind (compare query) after entry.0) entries place
 
-module _ {Q : Type 0} (text : Q → List ℕ) where
-  -- the bytes behind a bound
-  abbrev bytes_of : Bound (Bor Q) → Bound (List ℕ)
-  bytes_of bound = bound_map text (bound_map (λ q. q.now) bound)
+  pub from-included : (query : Q) → bound ≡ Included query → IsGapBy query false → IsGapOf (λ (entry : K × V). is_from compare bound entry.0) entries place
+  from-included query is gap = subst IsStart (sym is) gap
 
-  from-start : (start : Bound (Bor Q)) (x : List ℕ) → is_from text start x ≡ is_from_start (λ x y. Some (text_order x y)) (bytes_of start) x
-  from-start (Included key) x = ap is_ge (nat_list_cmp_total.antisymm x (text key.now)) ∙ ge-reversed (text_order (text key.now) x)
-  from-start (Excluded key) x = ap is_gt (nat_list_cmp_total.antisymm x (text key.now)) ∙ gt-reversed (text_order (text key.now) x)
-  from-start Unbounded x = refl
+  pub from-excluded : (query : Q) → bound ≡ Excluded query → IsGapBy query true → IsGapOf (λ (entry : K × V). is_from compare bound entry.0) entries place
+  from-excluded query is gap = subst IsStart (sym is) gap
 
-  up-to-end : (end : Bound (Bor Q)) (x : List ℕ) → is_up_to text end x ≡ is_up_to_end (λ x y. Some (text_order x y)) (bytes_of end) x
-  up-to-end (Included key) x = refl
-  up-to-end (Excluded key) x = refl
-  up-to-end Unbounded x = refl
+  pub from-first : bound ≡ Unbounded → place ≡ 0 → IsGapOf (λ (entry : K × V). is_from compare bound entry.0) entries place
+  from-first is start =
+      let none : take place entries ≡ [] = ap (λ n. take n entries) start in
+      subst IsStart (sym is) (subst (All (λ (entry : K × V). true ≡ false)) (sym none) (All-nil (λ (entry : K × V). true ≡ false)), λ k d inside. refl)
 
-  in-range : (start end : Bound (Bor Q)) (x : List ℕ) → (is_up_to text end x && is_from text start x) ≡ bounds_contain (λ x y. Some (text_order x y)) (bytes_of start) (bytes_of end) x
-  in-range start end x =
-      both-turned (is_up_to text end x) (is_from text start x)
-      ∙ (λ i. from-start start x i && up-to-end end x i)
+  pub past-included : (query : Q) → bound ≡ Included query → IsGapBy query true → IsGapOf (λ (entry : K × V). is_past compare bound entry.0) entries place
+  past-included query is gap = subst IsEnd (sym is) gap
 
-pub within-in : {K V Q : Type 0} (text : K → List ℕ) (bound_text : Q → List ℕ) (start end : Bound (Bor Q)) (entries : List (K × V))
-    → entries_within text bound_text start end entries ≡ entries_in text (bound_map bound_text (bound_map (λ q. q.now) start)) (bound_map bound_text (bound_map (λ q. q.now) end)) entries
-within-in text bound_text start end entries = filter_agree _ _ (λ entry. in-range bound_text start end (text entry.0)) entries
+  pub past-excluded : (query : Q) → bound ≡ Excluded query → IsGapBy query false → IsGapOf (λ (entry : K × V). is_past compare bound entry.0) entries place
+  past-excluded query is gap = subst IsEnd (sym is) gap
+
+  pub past-last : bound ≡ Unbounded → place ≡ length entries → IsGapOf (λ (entry : K × V). is_past compare bound entry.0) entries place
+  past-last is end =
+      let none : drop place entries ≡ [] = drop_all place entries (omega (arith, end)) in
+      subst IsEnd (sym is) (λ k d inside. refl, subst (All (λ (entry : K × V). false ≡ true)) (sym none) (All-nil (λ (entry : K × V). false ≡ true)))
+
+-- ranges of keys behind references are std's
+module _ {K : Type 0} (cmp : K → K → Ordering) where
+  from-same : (start : Bound (Bor K)) (key : K) → is_from (λ (query : Bor K). cmp query.now) start key ≡ is_from_start cmp (bound_map (λ query. query.now) start) key
+  from-same (Included query) key = refl
+  from-same (Excluded query) key = refl
+  from-same Unbounded key = refl
+
+  past-same : (end : Bound (Bor K)) (key : K) → is_past (λ (query : Bor K). cmp query.now) end key ≡ is_past_end cmp (bound_map (λ query. query.now) end) key
+  past-same (Included query) key = refl
+  past-same (Excluded query) key = refl
+  past-same Unbounded key = refl
+
+  pub range-same : {V : Type 0} (start end : Bound (Bor K)) (entries : List (K × V))
+      → filter (λ (entry : K × V). is_from (λ (query : Bor K). cmp query.now) start entry.0 && not (is_past (λ (query : Bor K). cmp query.now) end entry.0)) entries
+      ≡ entries_between cmp (bound_map (λ query. query.now) start) (bound_map (λ query. query.now) end) entries
+  range-same {V} start end entries = filter_agree _ _ (λ (entry : K × V). λ i. from-same start entry.0 i && not (past-same end entry.0 i)) entries
+
+-- between the two bounds of a prefix are the keys that begin with it
+pub between-bounds : (order : Ordering) → (is_le (ordering_then order Less) && not (is_le (ordering_then order Greater))) ≡ is_eq order
+between-bounds Less = refl
+between-bounds Equal = refl
+between-bounds Greater = refl

@@ -1,26 +1,10 @@
--- A closure that is called at entries in turn, and a leaf with another value.
-use Rattle.art_map.proofs.Names.{◌≡◌, ◌≢◌, ◌∙◌, ℕ, Bool, true, cond, List, [], ◌∷◌, ◌++◌, map, Option, Some, None, append_assoc, refl, sym, ap, FoldsTo, CallableOnEachPair, RetainsPairs, SomeCallAtPair, map-append, opaque_pointer, LeafNode, OpaqueNodePtr, NodeArena, Changes, HeldLeaf, Nothing, held, held_leaf, spells-exchanged, stands-exchanged, leaf_at, Tree, IsAlone, CallableInTurn, ChangesInTurn, ChangesValue, TakesValue, Mut, MutBor, Bor}
-use Rattle.art_header.specs.declared.node_type.NodeType.TheVariants as kinds
-use Rattle.art_nodes.specs.Leaf.{with_value}
-
--- a leaf that is held
-pub held-slot : {K V : Type 0} {P : ℕ} (o : Option (LeafNode K V P)) → held_leaf {H = OpaqueNodePtr K V P} o ≢ Nothing → (leaf : LeafNode K V P) × (o ≡ Some leaf)
-held-slot None is_held = absurd (is_held refl)
-held-slot (Some leaf) is_held = (leaf, refl)
-
--- a tree that is alone in its arena is so once a leaf has another value
-module _ {K V : Type 0} {P : ℕ} (text : K → List ℕ) (old new : NodeArena K V P) (key : ℕ) (leaf : LeafNode K V P) (there : leaf_at old key ≡ Some leaf) (value : V) (changes : Changes old new (opaque_pointer kinds.Leaf key) (HeldLeaf (with_value leaf value))) where
-  not-this : (pointer : OpaqueNodePtr K V P) → held old pointer ≡ Nothing → pointer ≢ opaque_pointer kinds.Leaf key
-  not-this pointer none same = let wrong : HeldLeaf leaf ≡ Nothing = sym (ap (held_leaf {H = OpaqueNodePtr K V P}) there) ∙ ap (held old) (sym same) ∙ none in absurd (cc)
-
-  pub alone-kept : (root : OpaqueNodePtr K V P) (tree : Tree (OpaqueNodePtr K V P)) → IsAlone text old root tree → IsAlone text new root tree
-  alone-kept root tree alone = record {
-    is_tree = record { at_root = alone.is_tree.at_root; stands = stands-exchanged text old new key leaf (with_value leaf value) there changes tree refl alone.is_tree.stands; sound = alone.is_tree.sound };
-    smallest_kinds = alone.smallest_kinds;
-    short = alone.short;
-    spelled = spells-exchanged old new key leaf (with_value leaf value) there changes refl refl _ alone.spelled;
-    no_others = λ pointer is_held. alone.no_others pointer (λ none. is_held (changes.others pointer (not-this pointer none) ∙ none));
-  }
+-- A closure that is called at entries in turn, as a test of them.
+use denote.Param.Members.{Mut}
+use denote.Ref.{Bor, MutBor}
+use Rattle.std.proofs.Common.{◌≡◌, ◌∙◌, Bool, true, cond, List, [], ◌∷◌, map, ap, subst}
+use Rattle.std.specs.List.{FoldsTo}
+use Rattle.std.specs.Map.Calls.{CallableOnEachPair, RetainsPairs, SomeCallAtPair}
+use Rattle.art_pages.specs.Retaining.{CallableInTurn, ChangesInTurn, ChangesValue, TakesValue}
 
 module _ {F K V : Type 0} (g : Mut F (Bor K × (MutBor V × Unit {0})) (Unit {0} × (MutBor V × Unit {0}))) where
   -- a call of a closure after which the entry stays, as a test of it
@@ -39,7 +23,18 @@ module _ {F K V : Type 0} (g : Mut F (Bor K × (MutBor V × Unit {0})) (Unit {0}
   changes-in-turn f (entry ∷ entries) new (keeps, value, f', rest, (stays, changes), later, is) =
       (value, f', rest, changes, changes-in-turn f' entries rest later, is ∙ ap (λ b. cond b ((entry.0, value) ∷ rest) rest) stays)
 
--- another value changes no key
-pub keys-kept : {K V : Type 0} (front rest : List (K × V)) (entry : K × V) (value : V) → map (λ e. e.0) ((front ++ (entry.0, value) ∷ []) ++ rest) ≡ map (λ e. e.0) (front ++ entry ∷ rest)
-keys-kept front rest entry value =
-    ap (map (λ e. e.0)) (append_assoc front ((entry.0, value) ∷ []) rest) ∙ map-append (λ e. e.0) front ((entry.0, value) ∷ rest) ∙ sym (map-append (λ e. e.0) front (entry ∷ rest))
+  -- no key changes
+  pub same-keys : (f : F) (old new : List (K × V)) → ChangesInTurn g f old new → map (λ (e : K × V). e.0) new ≡ map (λ (e : K × V). e.0) old
+  same-keys f [] new none = ap (map (λ (e : K × V). e.0)) none
+  same-keys f (entry ∷ entries) new (value, f', rest, changes, later, is) = ap (map (λ (e : K × V). e.0)) is ∙ ap (λ l. entry.0 ∷ l) (same-keys f' entries rest later)
+
+-- where each call leaves what a function makes of key and value, and the closure as it was, it is as if that function had been
+-- applied to each entry
+pub values_same : {F K V : Type 0} (g : Mut F (Bor K × (MutBor V × Unit {0})) (Unit {0} × (MutBor V × Unit {0}))) (change : K → V → V) (f : F)
+    → ((key : K) (value now : V) (f' : F) → ChangesValue g f key value now f' → (now ≡ change key value) × (f' ≡ f))
+    → (old new : List (K × V)) → ChangesInTurn g f old new → new ≡ map (λ (e : K × V). (e.0, change e.0 e.1)) old
+values_same g change f same [] new none = none
+values_same g change f same (entry ∷ entries) new (value, f', rest, called, onwards, is) =
+    let one = same entry.0 entry.1 value f' called in
+    let later = values_same g change f same entries rest (subst (λ state. ChangesInTurn g state entries rest) one.1 onwards) in
+    is ∙ ap (λ now. (entry.0, now) ∷ rest) one.0 ∙ ap (λ all. (entry.0, change entry.0 entry.1) ∷ all) later

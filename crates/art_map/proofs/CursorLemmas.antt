@@ -1,205 +1,133 @@
--- The entries before and behind a leaf of a tree: where the list is cut, and the leaf behind.
-use Rattle.art_map.proofs.Names.{LeafPtr, ◌≡◌, ◌≢◌, ◌∙◌, ℕ, Bool, true, false, List, [], ◌∷◌, ◌++◌, map, slice_get, All, Contains, Option, Some, None, append_assoc, append-nil, get_or, refl, sym, ap, subst, inl, inr, arith, option_map, Less, All-nil, All-cons, All-head, All-tail, Contains-append_right, Contains-get_or, filter_map-append, text_order, leaf_key, opaque_key, opaque_pointer, slab_key, LeafNode, OpaqueNodePtr, NodeArena, Changes, HeldLeaf, held, held_leaf, knit-member, next-member, are-entries, leaf-in, Spells, leaf_at, next_at, Tree, leaves, IsAlone, IsArt, entries_of, without_text, texts_of, leaf_pointer, is_before, AreOn, Side, HoldsFirst, IsSplit, keys_of, AllHold, IsFirstAfter, entries_under, leaf_entry}
-use Rattle.art_header.specs.declared.node_type.NodeType.TheVariants as kinds
-use Rattle.art_nodes.specs.Leaf.{with_value}
-use Rattle.art_arena.specs.Arena.{SameNodes}
-use Rattle.art_tree.specs.Leaves.{KeepsOtherLeaves}
-use Rattle.art_map.proofs.CallLaws.{Ascend, ascend_rest, first_or_later, first_there, image_inside, less_differs, none_below, none_inside, other_text, text_itself}
-use Rattle.art_map.proofs.CalledLemmas.{alone-kept, held-slot}
-use Rattle.art_map.proofs.EntryLemmas.{entries-of-leaves, leaves-hold}
-use Rattle.art_map.proofs.ListLemmas.{slot-of}
-use Rattle.art_map.proofs.RangeLemmas.{held-append, held_by, hold-left, hold-right, something-held}
-use Rattle.art_map.proofs.RunLemmas.{apart-at, entries-cons, entries-kept, others-stay}
+-- The two sides of a gap in a list, and a gap that moves over one item.
+use Rattle.std.proofs.Common.{◌≡◌, ◌∙◌, ℕ, ◌-◌, Bool, true, false, not, ◌&&◌, cond, List, [], ◌∷◌, ◌++◌, All, Option, Some, None, length, length-append, take, drop, filter, append_assoc, refl, sym, ap, subst, arith}
+use Rattle.std.proofs.lemmas.List.{append-nil, drop_at, take_at, take-append-drop}
+use Rattle.std.proofs.lemmas.List.Elements.{All-nil, All-cons, All-head, All-tail, All-append, All-weaker, filter-append}
+use Rattle.std.proofs.lemmas.Cmp.{tied_itself}
+use Rattle.std.specs.Cmp.{IsTotalOrder}
+use Rattle.std.specs.BTreeMap.Range.{entries_between, range_contains}
+use Rattle.std.specs.Option.{IfSome, MatchOption}
+use Rattle.std.specs.Ordering.{is_le, is_lt}
+use Rattle.std.specs.declared.cmp.Ordering.{Ordering}
+use Rattle.std.specs.declared.cmp.Ordering.TheVariants.{Less, Greater}
+use Rattle.std.specs.declared.ops.Bound.TheVariants.{Excluded, Unbounded}
+use Rattle.art_pages.specs.Entries.{IsOrdered}
+use Rattle.art_pages.proofs.OrderLemmas.{ordered-left, ordered-right}
+use Rattle.art_map.specs.Cursors.{AreSides, gap_sides}
+use Rattle.art_map.specs.Seats.{IsGapOf}
+use Rattle.art_map.proofs.EndLemmas.{above-others, below-others}
+use Rattle.art_map.proofs.WithinLemmas.{Fails, Passes}
 
--- a list around a member
-pub around : {X : Type 0} (xs : List X) (x : X) → Contains xs x → (before : List X) × (after : List X) × (xs ≡ before ++ x ∷ after)
-around [] x inside = absurd (none_inside x inside)
-around (y ∷ ys) x inside = elim (first_or_later y x ys inside) [
-  | inl same ↦ ([], ys, ap (λ z. z ∷ ys) same)
-  | inr later ↦ let (before, after, is) = around ys x later in (y ∷ before, after, ap (λ zs. y ∷ zs) is)
-]
+-- the sides of a gap are those that one of them leaves
+module _ {X : Type 0} (list a b : List X) (whole : a ++ b ≡ list) where
+  pub sides-of-after : gap_sides list true b ≡ (a, b)
+  sides-of-after =
+      let long = ap length whole in
+      let sum = length-append a b in
+      let same : length list - length b ≡ length a = omega (arith, long, sum) in
+      ap (λ l. (l, b)) (ap (take (length list - length b)) (sym whole) ∙ take_at a b (length list - length b) (sym same))
 
--- texts that ascend are different, so an entry is at one place among them
-module _ {K V : Type 0} (text : K → List ℕ) where
-  not-below-itself : (e : K × V) (entries : List (K × V)) → Ascend (text e.0 ∷ texts_of text entries) → Contains entries e → ⊥
-  not-below-itself e entries ascend inside =
-      less_differs (text e.0) (text e.0) (none_below (text e.0) (text e.0) (texts_of text entries) ascend (image_inside (λ x. text x.0) entries e (text e.0) refl inside)) refl
+  pub sides-of-before : gap_sides list false a ≡ (a, b)
+  sides-of-before = ap (λ l. (a, l)) (ap (drop (length a)) (sym whole) ∙ drop_at a b (length a) refl)
 
-  pub one-cut : (before others : List (K × V)) (e : K × V) (after rest : List (K × V)) → Ascend (texts_of text (before ++ e ∷ after)) → before ++ e ∷ after ≡ others ++ e ∷ rest → (before ≡ others) × (after ≡ rest)
-  one-cut [] [] e after rest ascend is = (refl, cc)
-  one-cut [] (x ∷ others) e after rest ascend is =
-      let tails : after ≡ others ++ e ∷ rest = cc in
-      absurd (not-below-itself e after ascend (subst (λ all. Contains all e) (sym tails) (Contains-append_right others (e ∷ rest) e (0, omega arith, refl))))
-  one-cut (x ∷ before) [] e after rest ascend is =
-      let same : x ≡ e = cc in
-      absurd (not-below-itself e (before ++ e ∷ after) (subst (λ y. Ascend (text y.0 ∷ texts_of text (before ++ e ∷ after))) same ascend) (Contains-append_right before (e ∷ after) e (0, omega arith, refl)))
-  one-cut (x ∷ before) (y ∷ others) e after rest ascend is =
-      let same : x ≡ y = cc in
-      let tails : before ++ e ∷ after ≡ others ++ e ∷ rest = cc in
-      let (left, right) = one-cut before others e after rest (ascend_rest (text x.0) (texts_of text (before ++ e ∷ after)) ascend) tails in
-      ((λ i. same i ∷ left i), right)
+module _ {X : Type 0} (test : X → Bool) where
+  pub keep-none : (list : List X) → All (Fails test) list → filter test list ≡ []
+  keep-none [] fail = refl
+  keep-none (x ∷ list) fail =
+      ap (λ keep. cond keep (x ∷ filter test list) (filter test list)) (All-head (Fails test) x list fail) ∙ keep-none list (All-tail (Fails test) x list fail)
 
-  -- those before an entry are below it, and those behind it above
-  pub behind-ascend : (before : List (K × V)) (after : List (K × V)) → Ascend (texts_of text (before ++ after)) → Ascend (texts_of text after)
-  behind-ascend [] after ascend = ascend
-  behind-ascend (x ∷ before) after ascend = behind-ascend before after (ascend_rest (text x.0) (texts_of text (before ++ after)) ascend)
+  pub keep-all : (list : List X) → All (Passes test) list → filter test list ≡ list
+  keep-all [] pass = refl
+  keep-all (x ∷ list) pass =
+      ap (λ keep. cond keep (x ∷ filter test list) (filter test list)) (All-head (Passes test) x list pass)
+      ∙ ap (λ l. x ∷ l) (keep-all list (All-tail (Passes test) x list pass))
 
-  pub all-above : (e : K × V) (after : List (K × V)) → Ascend (texts_of text (e ∷ after)) → All (λ other. text_order (text e.0) (text other.0) ≡ Less) after
-  all-above e after ascend = λ k d inside.
-      let other = get_or after k d in
-      none_below (text e.0) (text other.0) (texts_of text after) ascend (image_inside (λ x. text x.0) after other (text other.0) refl (Contains-get_or after k d inside))
+  pub keep-after : (a b : List X) → All (Fails test) a → All (Passes test) b → filter test (a ++ b) ≡ b
+  keep-after a b fail pass = filter-append test a b ∙ (λ i. keep-none a fail i ++ keep-all b pass i)
 
-  -- without the text of an entry, the list is what is before and behind it
-  pub without-here : (before : List (K × V)) (e : K × V) (after : List (K × V)) → Ascend (texts_of text (before ++ e ∷ after)) → without_text text (before ++ e ∷ after) (text e.0) ≡ before ++ after
-  without-here [] e after ascend = rw (text_itself (text e.0)) (none-gone after (all-above e after ascend))
+  pub keep-before : (a b : List X) → All (Passes test) a → All (Fails test) b → filter test (a ++ b) ≡ a
+  keep-before a b pass fail = filter-append test a b ∙ (λ i. keep-all a pass i ++ keep-none b fail i) ∙ append-nil a
+
+-- the gap of a test parts the items that fail it from those that pass it
+module _ {X : Type 0} (test : X → Bool) (list : List X) (place : ℕ) (gap : IsGapOf test list place) where
+  pub gap-after : filter test list ≡ drop place list
+  gap-after = ap (filter test) (sym (take-append-drop place list)) ∙ keep-after test (take place list) (drop place list) gap.0 gap.1
+
+  pub gap-before : filter (λ x. not (test x)) list ≡ take place list
+  gap-before =
+      ap (filter (λ x. not (test x))) (sym (take-append-drop place list))
+      ∙ keep-before (λ x. not (test x)) (take place list) (drop place list)
+      (All-weaker (Fails test) (Passes (λ x. not (test x))) (λ x fail. ap not fail) (take place list) gap.0)
+      (All-weaker (Passes test) (Fails (λ x. not (test x))) (λ x pass. ap not pass) (drop place list) gap.1)
+
+-- an entry beside a gap of entries that ascend: what is beyond it is the other side
+module _ {K V : Type 0} (cmp : K → K → Ordering) (total : IsTotalOrder cmp) (entries : List (K × V)) (ordered : IsOrdered cmp entries) (one : K × V) where
+  abbrev Is : Ordering → K × V → Type 0
+  Is order entry = cmp one.0 entry.0 ≡ order
+
+  abbrev above : K × V → Bool
+  above entry = range_contains cmp (Excluded one.0) Unbounded entry.0
+
+  abbrev below : K × V → Bool
+  below entry = range_contains cmp Unbounded (Excluded one.0) entry.0
+
+  pub above-last : (rest b : List (K × V)) → (rest ++ one ∷ []) ++ b ≡ entries → entries_between cmp (Excluded one.0) Unbounded entries ≡ b
+  above-last rest b whole =
+      ap (filter above) (sym whole)
+      ∙ keep-after above (rest ++ one ∷ []) b
+      (All-append (Fails above) rest (one ∷ [])
+      (All-weaker (Is Greater) (Fails above) (λ entry is. ap (λ o. is_lt o && true) is) rest
+      (below-others cmp total (rest ++ one ∷ []) rest one refl (ordered-left cmp (rest ++ one ∷ []) b parts)))
+      (All-cons (Fails above) one [] (ap (λ o. is_lt o && true) (tied_itself total one.0)) (All-nil (Fails above))))
+      (All-weaker (Is Less) (Passes above) (λ entry is. ap (λ o. is_lt o && true) is) b
+      (above-others cmp total (one ∷ b) b one refl (ordered-right cmp rest (one ∷ b) (subst (IsOrdered cmp) (append_assoc rest (one ∷ []) b) parts))))
     where
-      none-gone : (after : List (K × V)) → All (λ other. text_order (text e.0) (text other.0) ≡ Less) after → without_text text after (text e.0) ≡ after
-      none-gone [] above = refl
-      none-gone (x ∷ after) above =
-          let differ = other_text (text x.0) (text e.0) (λ same. less_differs (text e.0) (text x.0) (All-head (λ other. text_order (text e.0) (text other.0) ≡ Less) x after above) (sym same)) in
-          rw differ (ap (λ all. x ∷ all) (none-gone after (All-tail (λ other. text_order (text e.0) (text other.0) ≡ Less) x after above)))
-  without-here (x ∷ before) e after ascend =
-      let below = none_below (text x.0) (text e.0) (texts_of text (before ++ e ∷ after)) ascend (image_inside (λ y. text y.0) (before ++ e ∷ after) e (text e.0) refl (Contains-append_right before (e ∷ after) e (0, omega arith, refl))) in
-      let differ = other_text (text x.0) (text e.0) (less_differs (text x.0) (text e.0) below) in
-      rw differ (ap (λ all. x ∷ all) (without-here before e after (ascend_rest (text x.0) (texts_of text (before ++ e ∷ after)) ascend)))
+      parts : IsOrdered cmp ((rest ++ one ∷ []) ++ b)
+      parts = subst (IsOrdered cmp) (sym whole) ordered
 
--- a leaf that is held is one of the tree's
-module _ {K V : Type 0} {P : ℕ} (text : K → List ℕ) (arena : NodeArena K V P) (key : ℕ) (leaf : LeafNode K V P) (there : leaf_at arena key ≡ Some leaf) where
-  abbrev this : OpaqueNodePtr K V P
-  this = opaque_pointer kinds.Leaf key
-
-  pub is-held : held arena this ≡ HeldLeaf leaf
-  is-held = ap (held_leaf {H = OpaqueNodePtr K V P}) there
-
-  pub key-inside : (root : OpaqueNodePtr K V P) (tree : Tree (OpaqueNodePtr K V P)) → IsAlone text arena root tree → Contains (keys_of (leaves tree)) key
-  key-inside root tree alone =
-      let inside = leaf-in text arena tree alone.is_tree.stands this leaf (alone.no_others this (something-held (held arena this) leaf is-held)) is-held in
-      image_inside opaque_key (map (λ pair. pair.0) (leaves tree)) this key refl (image_inside (λ pair. pair.0) (leaves tree) (this, text (leaf_key leaf)) this refl inside)
-
--- the entry at a cut is that of the leaf
-pub entry-at : {K V : Type 0} {P : ℕ} (arena : NodeArena K V P) (key : ℕ) (entry : K × V) (after : List (K × V)) (holds : HoldsFirst arena (Some key) (entry ∷ after)) → entry ≡ leaf_entry holds.0
-entry-at arena key entry after holds = let both : entry ∷ after ≡ leaf_entry holds.0 ∷ holds.1 = holds.3 in cc
-
--- the leaves before and behind the leaf at a cut hold the entries before and behind it
-module _ {K V : Type 0} {P : ℕ} (text : K → List ℕ) (arena : NodeArena K V P) (root : OpaqueNodePtr K V P) (tree : Tree (OpaqueNodePtr K V P)) (alone : IsAlone text arena root tree)
-    (before : List (K × V)) (key : ℕ) (entry : K × V) (after : List (K × V)) (cut : IsSplit text arena before (Some key) (entry ∷ after)) where
-  abbrev pub leaf-here : LeafNode K V P
-  leaf-here = cut.1.0
-
-  pub is-there : leaf_at arena key ≡ Some leaf-here
-  is-there = cut.1.2
-
-  pub entry-is : entry ≡ leaf_entry leaf-here
-  entry-is = entry-at arena key entry after cut.1
-
-  abbrev parted : (done : List ℕ) × (todo : List ℕ) × (keys_of (leaves tree) ≡ done ++ key ∷ todo)
-  parted = around (keys_of (leaves tree)) key (key-inside text arena key leaf-here is-there root tree alone)
-
-  abbrev pub done : List ℕ
-  done = parted.0
-
-  abbrev pub todo : List ℕ
-  todo = parted.1
-
-  pub keys-are : keys_of (leaves tree) ≡ done ++ key ∷ todo
-  keys-are = parted.2
-
-  pub spells-here : Spells arena (done ++ key ∷ todo)
-  spells-here = subst (Spells arena) keys-are alone.spelled
-
-  under-parts : entries_under arena done ++ entry ∷ entries_under arena todo ≡ before ++ entry ∷ after
-  under-parts =
-      ap (λ e. entries_under arena done ++ e ∷ entries_under arena todo) entry-is
-      ∙ sym (filter_map-append (λ k. option_map leaf_entry (leaf_at arena k)) done (key ∷ todo) ∙ ap (λ es. entries_under arena done ++ es) (entries-cons arena key todo leaf-here is-there))
-      ∙ sym (ap (entries_under arena) keys-are) ∙ entries-of-leaves alone ∙ cut.0
-
-  same-parts : (before ≡ entries_under arena done) × (after ≡ entries_under arena todo)
-  same-parts = one-cut text before (entries_under arena done) entry after (entries_under arena todo) (subst (λ es. Ascend (texts_of text es)) cut.0 (are-entries text arena).ascending) (sym under-parts)
-
-  pub behind-is : after ≡ entries_under arena todo
-  behind-is = same-parts.1
-
-  pub before-is : before ≡ entries_under arena done
-  before-is = same-parts.0
-
-  -- the leaf behind holds the first of the entries behind
-  pub cut-behind : (next : Option ℕ) → next ≡ next_at arena key → IsSplit text arena (before ++ entry ∷ []) next after
-  cut-behind next is = (cut.0 ∙ sym (append_assoc before (entry ∷ []) after), subst (λ o. HoldsFirst arena o after) (sym (is ∙ next-member arena done todo key spells-here)) (by_todo todo refl behind-is))
+  pub below-first : (a rest : List (K × V)) → a ++ one ∷ rest ≡ entries → entries_between cmp Unbounded (Excluded one.0) entries ≡ a
+  below-first a rest whole =
+      ap (filter below) (sym whole)
+      ∙ keep-before below a (one ∷ rest)
+      (All-weaker (Is Greater) (Passes below) (λ entry is. ap (λ o. not (is_le o)) is) a
+      (below-others cmp total (a ++ one ∷ []) a one refl (ordered-left cmp (a ++ one ∷ []) rest (subst (IsOrdered cmp) (sym (append_assoc a (one ∷ []) rest)) parts))))
+      (All-cons (Fails below) one rest (ap (λ o. not (is_le o)) (tied_itself total one.0))
+      (All-weaker (Is Less) (Fails below) (λ entry is. ap (λ o. not (is_le o)) is) rest
+      (above-others cmp total (one ∷ rest) rest one refl (ordered-right cmp a (one ∷ rest) parts))))
     where
-      by_todo : (keys : List ℕ) → todo ≡ keys → after ≡ entries_under arena keys → HoldsFirst arena (slice_get keys 0) after
-      by_todo [] is none = none
-      by_todo (k ∷ keys) is some =
-          let spells = subst (Spells arena) (ap (λ ks. done ++ key ∷ ks) is ∙ sym (append_assoc done (key ∷ []) (k ∷ keys))) spells-here in
-          let (other, found) = held-slot (leaf_at arena k) (knit-member arena (done ++ key ∷ []) keys k spells).held in
-          (other, entries_under arena keys, found, some ∙ entries-cons arena k keys other found)
+      parts : IsOrdered cmp (a ++ one ∷ rest)
+      parts = subst (IsOrdered cmp) (sym whole) ordered
 
-  -- another value in the leaf is another value in the list
-  module _ (new : NodeArena K V P) (value : V) (changes : Changes arena new (opaque_pointer kinds.Leaf key) (HeldLeaf (with_value leaf-here value))) where
-    pub cut-changed : IsSplit text new before (Some key) ((entry.0, value) ∷ after)
-    cut-changed =
-        let others = others-stay arena new key changes in
-        let apart = apart-at done key todo spells-here.distinct in
-        let here : leaf_at new key ≡ Some (with_value leaf-here value) = slot-of (leaf_at new key) (with_value leaf-here value) changes.changed in
-        let now : leaf_entry (with_value leaf-here value) ≡ (entry.0, value) = sym (ap (λ e. (e.0, value)) entry-is) in (
-          sym (entries-of-leaves (alone-kept text arena new key leaf-here is-there value changes root tree alone)) ∙ ap (entries_under new) keys-are
-              ∙ filter_map-append (λ k. option_map leaf_entry (leaf_at new k)) done (key ∷ todo)
-              ∙ ap (λ es. es ++ entries_under new (key ∷ todo)) (entries-kept arena new key others done apart.0 ∙ sym before-is)
-              ∙ ap (λ es. before ++ es) (entries-cons new key todo (with_value leaf-here value) here)
-              ∙ ap (λ es. before ++ leaf_entry (with_value leaf-here value) ∷ es) (entries-kept arena new key others todo apart.1 ∙ sym behind-is)
-              ∙ ap (λ e. before ++ e ∷ after) now,
-          (with_value leaf-here value, after, here, ap (λ e. e ∷ after) (sym now)),
-        )
+-- the cursor at the gap of a test, where the items on one side of it are found in a list that is the whole one
+module _ {X : Type 0} (test : X → Bool) (list found side : List X) (same : found ≡ list) where
+  parts : (place : ℕ) → IsGapOf test found place → (take place found ≡ filter (λ x. not (test x)) list) × (drop place found ≡ filter test list)
+  parts place gap = (
+    sym (gap-before test found place gap) ∙ ap (filter (λ x. not (test x))) same,
+    sym (gap-after test found place gap) ∙ ap (filter test) same,
+  )
 
--- the leaf behind one that is removed holds the same entry
-module _ {K V : Type 0} {P : ℕ} (text : K → List ℕ) (old new : NodeArena K V P) (e : K × V) (keeps : KeepsOtherLeaves text old new (text e.0)) where
-  pub holds-on : (next : Option ℕ) (after : List (K × V)) → Ascend (texts_of text (e ∷ after)) → HoldsFirst old next after → HoldsFirst new next after
-  holds-on None after ascend holds = holds
-  holds-on (Some key) after ascend (leaf, rest, there, is) =
-      let above = none_below (text e.0) (text (leaf_key leaf)) (texts_of text after) ascend (subst (λ es. Contains (texts_of text es) (text (leaf_key leaf))) (sym is) (first_there (text (leaf_key leaf)) (text (leaf_key leaf)) (texts_of text rest) refl)) in
-      let differ : text (leaf_key leaf) ≢ text e.0 = λ same. less_differs (text e.0) (text (leaf_key leaf)) above (sym same) in
-      let (now, found, same_key, same_value) = keeps (opaque_pointer kinds.Leaf key) leaf (ap (held_leaf {H = OpaqueNodePtr K V P}) there) differ in
-      (now, rest, slot-of (leaf_at new key) now found, is ∙ ap (λ entry. entry ∷ rest) (λ i. (sym same_key i, sym same_value i)))
+  pub parted : (place : ℕ) → IsGapOf test found place → filter (λ x. not (test x)) list ++ filter test list ≡ list
+  parted place gap = (λ i. sym (parts place gap).0 i ++ sym (parts place gap).1 i) ∙ take-append-drop place found ∙ same
 
--- where no node is changed, a leaf holds the same entries
-pub holds-still : {K V : Type 0} {P : ℕ} (old new : NodeArena K V P) → SameNodes old new → (at : Option ℕ) (after : List (K × V)) → HoldsFirst old at after → HoldsFirst new at after
-holds-still old new same None after holds = holds
-holds-still old new same (Some key) after (leaf, rest, there, is) =
-    (leaf, rest, slot-of (leaf_at new key) leaf (same (opaque_pointer kinds.Leaf key) ∙ ap (held_leaf {H = OpaqueNodePtr _ _ _}) there), is)
+  pub sides-from : (place : ℕ) → IsGapOf test found place → side ≡ drop place found → gap_sides list true side ≡ (filter (λ x. not (test x)) list, filter test list)
+  sides-from place gap is =
+      let after = is ∙ (parts place gap).1 in
+      sides-of-after list (filter (λ x. not (test x)) list) side (ap (λ l. filter (λ x. not (test x)) list ++ l) after ∙ parted place gap)
+      ∙ ap (λ l. (filter (λ x. not (test x)) list, l)) after
 
--- an arena that holds a leaf has a tree
-pub alone-there : {K V : Type 0} {P : ℕ} (text : K → List ℕ) (arena : NodeArena K V P) (key : ℕ) (leaf : LeafNode K V P) → leaf_at arena key ≡ Some leaf → (root : Option (OpaqueNodePtr K V P)) → IsArt text arena root → (top : OpaqueNodePtr K V P) × (tree : Tree (OpaqueNodePtr K V P)) × IsAlone text arena top tree
-alone-there text arena key leaf there None nothing = absurd (something-held (held arena (opaque_pointer kinds.Leaf key)) leaf (is-held text arena key leaf there) (nothing (opaque_pointer kinds.Leaf key)))
-alone-there text arena key leaf there (Some root) (tree, alone) = (root, tree, alone)
+  pub sides-up-to : (place : ℕ) → IsGapOf test found place → side ≡ take place found → gap_sides list false side ≡ (filter (λ x. not (test x)) list, filter test list)
+  sides-up-to place gap is =
+      let before = is ∙ (parts place gap).0 in
+      sides-of-before list side (filter test list) (ap (λ l. l ++ filter test list) before ∙ parted place gap) ∙ ap (λ l. (l, filter test list)) before
 
--- the list is cut where the leaves are
-module _ {K V : Type 0} {P : ℕ} (text : K → List ℕ) (arena : NodeArena K V P) (side : Side) (key : List ℕ) where
-  abbrev pub IsCutAt : Option ℕ → Type 0
-  IsCutAt at =
-      (before : List (K × V)) × (after : List (K × V)) × IsSplit text arena before at after
-      × All (λ entry. is_before side key (text entry.0) ≡ true) before × All (λ entry. is_before side key (text entry.0) ≡ false) after
-
-  all-held : (t : Bool) (pairs : List (OpaqueNodePtr K V P × List ℕ)) → AllHold text arena pairs → AreOn side key t pairs → All (λ entry. is_before side key (text entry.0) ≡ t) (held_by text arena pairs)
-  all-held t [] hold all = All-nil (λ entry. is_before side key (text entry.0) ≡ t)
-  all-held t (pair ∷ pairs) hold all =
-      let cons = entries-cons arena (opaque_key pair.0) (keys_of pairs) hold.0.leaf hold.0.at in
-      subst (All (λ entry. is_before side key (text entry.0) ≡ t)) (sym cons)
-      (All-cons (λ entry. is_before side key (text entry.0) ≡ t) (leaf_entry hold.0.leaf) (held_by text arena pairs) (ap (is_before side key) hold.0.has ∙ All-head (λ leaf. is_before side key leaf.1 ≡ t) pair pairs all)
-      (all-held t pairs hold.1 (All-tail (λ leaf. is_before side key leaf.1 ≡ t) pair pairs all)))
-
-  pub cut-none : entries_of text arena ≡ [] → IsCutAt None
-  cut-none none = ([], [], (none, refl), All-nil (λ entry. is_before side key (text entry.0) ≡ true), All-nil (λ entry. is_before side key (text entry.0) ≡ false))
-
-  module _ {root : OpaqueNodePtr K V P} {tree : Tree (OpaqueNodePtr K V P)} (alone : IsAlone text arena root tree) where
-    pub cut-some : (o : Option (LeafPtr K V P)) → IsFirstAfter side key (leaves tree) (option_map leaf_pointer o) → IsCutAt (option_map slab_key o)
-    cut-some None on = (entries_of text arena, [], (sym (append-nil (entries_of text arena)), refl), subst (All (λ entry. is_before side key (text entry.0) ≡ true)) (entries-of-leaves alone) (all-held true (leaves tree) (leaves-hold alone) on), All-nil (λ entry. is_before side key (text entry.0) ≡ false))
-    cut-some (Some leaf) (x, left, right, is, before, after) =
-        let here : OpaqueNodePtr K V P × List ℕ = (leaf_pointer leaf, x) in
-        let parts = subst (AllHold text arena) is (leaves-hold alone) in
-        let low = hold-left text arena left (here ∷ right) parts in
-        let high = hold-right text arena left (here ∷ right) parts in (
-          held_by text arena left,
-          held_by text arena (here ∷ right),
-          (sym (entries-of-leaves alone) ∙ ap (held_by text arena) is ∙ held-append text arena left (here ∷ right), (high.0.leaf, held_by text arena right, high.0.at, entries-cons arena (slab_key leaf) (keys_of right) high.0.leaf high.0.at)),
-          all-held true left low before,
-          all-held false (here ∷ right) high after,
-        )
+-- a cursor that moves over the item after its gap, if there is one
+module _ {X A : Type 0} (seen : A → X) (list before given new : List X) (whole : before ++ given ≡ list) where
+  pub moved-on : (result : Option A) → MatchOption result ((given ≡ []) × (new ≡ [])) (λ item. given ≡ seen item ∷ new)
+      → AreSides list (gap_sides list true new) × IfSome result (λ item. (gap_sides list true new).0 ≡ before ++ seen item ∷ [])
+  moved-on None none =
+      let now : before ++ new ≡ list = ap (λ l. before ++ l) (none.1 ∙ sym none.0) ∙ whole in
+      (subst (AreSides list) (sym (sides-of-after list before new now)) now, tt)
+  moved-on (Some item) some =
+      let now : (before ++ seen item ∷ []) ++ new ≡ list = append_assoc before (seen item ∷ []) new ∙ ap (λ l. before ++ l) (sym some) ∙ whole in (
+        subst (AreSides list) (sym (sides-of-after list (before ++ seen item ∷ []) new now)) now,
+        ap (λ sides. sides.0) (sides-of-after list (before ++ seen item ∷ []) new now),
+      )

@@ -1,172 +1,214 @@
--- The list of the entries once the first or the last of them is gone.
-use Rattle.art_map.proofs.Names.{◌≡◌, ◌≢◌, ◌∙◌, ℕ, zero, suc, ◌-◌, List, [], ◌∷◌, ◌++◌, length, slice_get, All, AllPairs, Contains, Option, Some, None, Result, Ok, Err, IfOk, IfSome, IfNone, refl, sym, ap, subst, arith, nat_list_cmp_total, option_map, ordering_reverse, Ordering, Less, Equal, Greater, map-append, All-nil, All-cons, All-head, All-tail, All-append, All-map, All-weaker, Contains-append_left, Contains-append_right, text_order, NodeArena, First, Last, entry_at, HasEntry, IsEmpty, IsEntry, IsEndEntry, AreEntries, texts_of, IsLeft, by_text, are-entries, entry-listed, list-same, no-list, one-list, entries_of, End, OnErr, Art, OpaqueNodePtr, PopsEntry, EndMeets, SameEntries, NeedsSmallerNode, NeedsNode}
-use Rattle.std.specs.Borrow.{Bor}
-use Rattle.std.proofs.lemmas.List.Kept.{AllPairs-cons}
-use Rattle.std.proofs.lemmas.List.Quantifiers.{all_pairs_push}
-use Rattle.art_map.proofs.CallLaws.{image_inside, none_below, same_order}
-use Rattle.art_map.proofs.ListLemmas.{on-err}
+-- The first entry of a map taken out: the pages are still those of a map.
+use Rattle.std.proofs.Common.{◌≡◌, ◌≢◌, ◌∙◌, refl, ℕ, suc, ◌+◌, ◌-◌, ◌<◌, List, [], ◌∷◌, ◌++◌, length, length-append, All, cond, Option, Some, None, sym, ap, subst, arith}
+use Rattle.std.proofs.lemmas.Cmp.{tied_itself}
+use Rattle.std.proofs.lemmas.List.{map-append}
+use Rattle.std.proofs.lemmas.Option.{same_Some}
+use Rattle.std.specs.Prelude.{remove, slice_get}
+use Rattle.std.proofs.lemmas.List.Elements.{All-nil, All-cons, All-tail, All-weaker}
+use Rattle.std.specs.Cmp.{IsTotalOrder}
+use Rattle.std.specs.Ordering.{is_eq, ordering_reverse}
+use Rattle.std.specs.declared.cmp.Ordering.{Ordering}
+use Rattle.std.specs.declared.cmp.Ordering.TheVariants.{Less, Greater}
+use Rattle.art_bytes.specs.Text.{text_order}
+use Rattle.art_arena.specs.Arena.{LeafPtr, NodeArena}
+use Rattle.art_nodes.specs.Pointers.{slab_key}
+use Rattle.art_tree.specs.Entries.{entries_of}
+use Rattle.art_index.specs.Places.{IsPlaced, IsFirst, IsLast, IsNext, IsPrevious}
+use Rattle.art_pages.specs.Contents.{Contents}
+use Rattle.art_pages.specs.Entries.{IsOrdered, IsIndexable, AreKeys, AllAbove, AllBelow, get_by}
+use Rattle.art_pages.proofs.MiddleLemmas.{get_by-middle}
+use Rattle.art_pages.proofs.OrderLemmas.{above-first, ordered-right}
+use Rattle.art_map.specs.Pages.{entries_in, map_entries, KeysBelow, KeysFrom, AreParted, IsEncoding, IsMap}
+use Rattle.art_map.specs.Trees.{page_of}
+use Rattle.art_map.specs.Runs.{rank_at}
+use Rattle.art_map.specs.Ends.{IsEmptyBefore, IsEmptyBehind}
+use Rattle.art_map.proofs.PartLemmas.{parted-at, All-left}
+use Rattle.art_map.proofs.ChangeLemmas.{AreOver, entries-around, parted-changed, parted-before, parted-over, over-page, all-put, all-middle}
+use Rattle.art_map.proofs.RunLemmas.{entries_last, rank-placed}
+use Rattle.art_map.proofs.TreeLemmas.{pages}
 
-less-of : (o : Ordering) → o ≢ Greater → o ≢ Equal → o ≡ Less
-less-of Less low apart = refl
-less-of Equal low apart = absurd (apart refl)
-less-of Greater low apart = absurd (low refl)
+module _ {K V : Type 0} (order : K → K → Ordering) (is_key : K → Type 0) (encoded : K → List ℕ) (entry : K × V) where
+  over-rest : (entries : List (K × V)) (pages : List (List ℕ × List (K × V))) → AreOver encoded (entry ∷ entries) pages → AreOver encoded entries pages
+  over-rest entries pages =
+      All-weaker (λ page. KeysBelow encoded page.0 (entry ∷ entries)) (λ page. KeysBelow encoded page.0 entries)
+      (λ page. All-tail (λ entry. text_order (encoded entry.0) page.0 ≡ Less) entry entries) pages
 
-greater-of : (o : Ordering) → o ≢ Less → o ≢ Equal → ordering_reverse o ≡ Less
-greater-of Less high apart = absurd (high refl)
-greater-of Equal high apart = absurd (apart refl)
-greater-of Greater high apart = refl
+  ordered-rest : (old new : List (K × V)) → old ≡ entry ∷ new → IsOrdered order old → IsOrdered order new
+  ordered-rest old new is ordered = ordered-right order (entry ∷ []) new (subst (IsOrdered order) is ordered)
 
-module _ {K V : Type 0} {P : ℕ} (text : K → List ℕ) (old new : NodeArena K V P) (entry : K × V) (left : IsLeft text old new (text entry.0)) where
-  abbrev entries : List (K × V)
-  entries = entries_of text new
+  keys-rest : (old new : List (K × V)) → old ≡ entry ∷ new → AreKeys is_key encoded old → AreKeys is_key encoded new
+  keys-rest old new is keys = All-tail (λ entry. IsIndexable is_key encoded entry.0) entry new (subst (AreKeys is_key encoded) is keys)
 
-  abbrev are : AreEntries text new entries
-  are = are-entries text new
+  module _ (head : List (K × V)) (pages : List (List ℕ × List (K × V))) (map : IsMap order is_key encoded head pages) where
+    -- out of the first page
+    module _ (rest : List (K × V)) (is : head ≡ entry ∷ rest) where
+      pub first-of-head : map_entries head pages ≡ entry ∷ map_entries rest pages
+      first-of-head = ap (λ l. map_entries l pages) is
 
-  apart : (e : K × V) → IsEntry text new e → text e.0 ≢ text entry.0
-  apart e is_new same = let wrong : Some e ≡ None = sym is_new ∙ ap (entry_at text new) same ∙ left.gone in absurd (cc)
+      pub head-rest : IsMap order is_key encoded rest pages
+      head-rest = record {
+        ordered = ordered-rest (map_entries head pages) (map_entries rest pages) first-of-head map.ordered;
+        keys = keys-rest (map_entries head pages) (map_entries rest pages) first-of-head map.keys;
+        parted = parted-before encoded head rest pages map.parted
+            (over-rest rest pages (subst (λ l. AreOver encoded l pages) is (parted-over encoded head pages map.parted)));
+        anchors = map.anchors;
+      }
 
-  was : (e : K × V) → IsEntry text new e → IsEntry text old e
-  was e is_new = sym (left.others (text e.0) (apart e is_new)) ∙ is_new
+    -- out of the first page with entries
+    module _ (none : head ≡ []) (left : List (List ℕ × List (K × V))) (page : List ℕ × List (K × V)) (right : List (List ℕ × List (K × V))) (is : pages ≡ left ++ page ∷ right)
+        (none-left : entries_in left ≡ []) (rest : List (K × V)) (first : page.1 ≡ entry ∷ rest) (new : List (List ℕ × List (K × V))) (now : new ≡ left ++ (page.0, rest) ∷ right) where
+      begins : (entries : List (K × V)) → map_entries head (left ++ (page.0, entries) ∷ right) ≡ entries ++ entries_in right
+      begins entries =
+          ap (λ l. head ++ l) (entries-around left (page.0, entries) right) ∙ ap (λ l. l ++ (entries_in left ++ (entries ++ entries_in right))) none
+          ∙ ap (λ l. l ++ (entries ++ entries_in right)) none-left
 
-  all-were : All (IsEntry text old) entries
-  all-were = All-weaker (IsEntry text new) (IsEntry text old) was entries are.each
+      pub first-of-page : map_entries head pages ≡ entry ∷ map_entries head new
+      first-of-page =
+          ap (map_entries head) is ∙ begins page.1 ∙ ap (λ l. l ++ entries_in right) first
+          ∙ ap (λ l. entry ∷ l) (sym (begins rest) ∙ ap (map_entries head) (sym now))
 
-  -- an entry that was there is this one or is left
-  here-or-left : (x : List ℕ) → HasEntry text old x → (x ≡ text entry.0 → ⊥) → Contains (texts_of text entries) x
-  here-or-left x some differ = are.all x (λ none. some (sym (left.others x differ) ∙ none))
+      pub page-rest : IsMap order is_key encoded head new
+      page-rest =
+          let parted = subst (AreParted encoded head) is map.parted in
+          let from : KeysFrom encoded page.0 page.1 = All-left (λ entry. text_order (encoded entry.0) page.0 ≢ Less) page.1 (entries_in right) (parted-at encoded head left page right parted).1 in
+          let anchors = subst (All (λ page. IsEncoding is_key encoded page.0)) is map.anchors in record {
+            ordered = ordered-rest (map_entries head pages) (map_entries head new) first-of-page map.ordered;
+            keys = keys-rest (map_entries head pages) (map_entries head new) first-of-page map.keys;
+            parted = subst (AreParted encoded head) (sym now) (parted-changed encoded head left page rest right parted
+                (All-tail (λ entry. text_order (encoded entry.0) page.0 ≢ Less) entry rest (subst (KeysFrom encoded page.0) first from))
+                (over-rest rest right (subst (λ l. AreOver encoded l right) first (over-page encoded head left page right parted))));
+            anchors = subst (All (λ page. IsEncoding is_key encoded page.0)) (sym now)
+                (all-put (λ page. IsEncoding is_key encoded page.0) left page (page.0, rest) right anchors
+                (all-middle (λ page. IsEncoding is_key encoded page.0) left page right anchors));
+          }
 
-  first-below : IsEndEntry text old First entry → All (λ b. text_order (text entry.0) b ≡ Less) (texts_of text entries)
-  first-below end = All-map (λ b. text_order (text entry.0) b ≡ Less) (λ (e : K × V). text e.0) entries
-      (All-weaker (IsEntry text new) (λ e. text_order (text entry.0) (text e.0) ≡ Less)
-      (λ e is_new. less-of (text_order (text entry.0) (text e.0)) (end.within (text e.0) (λ none. let wrong : Some e ≡ None = sym (was e is_new) ∙ none in absurd (cc))) (λ equal. apart e is_new (sym (same_order (text entry.0) (text e.0) equal)))) entries are.each)
+module _ {K V : Type 0} {P : ℕ} (arena : NodeArena (List ℕ) (Contents K V) P) where
+  abbrev Leaf : Type 0
+  Leaf = LeafPtr (List ℕ) (Contents K V) P
 
-  last-above : IsEndEntry text old Last entry → All (λ b. text_order b (text entry.0) ≡ Less) (texts_of text entries)
-  last-above end = All-map (λ b. text_order b (text entry.0) ≡ Less) (λ (e : K × V). text e.0) entries
-      (All-weaker (IsEntry text new) (λ e. text_order (text e.0) (text entry.0) ≡ Less)
-      (λ e is_new. nat_list_cmp_total.antisymm (text e.0) (text entry.0) ∙ greater-of (text_order (text entry.0) (text e.0)) (end.within (text e.0) (λ none. let wrong : Some e ≡ None = sym (was e is_new) ∙ none in absurd (cc))) (λ equal. apart e is_new (sym (same_order (text entry.0) (text e.0) equal)))) entries are.each)
+  abbrev list : List (List ℕ × Contents K V)
+  list = entries_of (λ anchor. anchor) arena
 
-  -- with the first entry before them, those that are left are the entries of before
-  first-and-left : IsEndEntry text old First entry → entries_of text old ≡ entry ∷ entries
-  first-and-left end = one-list text old (entries_of text old) (entry ∷ entries) (are-entries text old) (record {
-    ascending = AllPairs-cons (λ a b. text_order a b ≡ Less) (text entry.0) (texts_of text entries) (first-below end) are.ascending;
-    each = All-cons (IsEntry text old) entry entries end.is_entry all-were;
-    all = λ x some. by_text x (text entry.0) (Contains (texts_of text (entry ∷ entries)) x)
-        (λ _ same. subst (Contains (texts_of text (entry ∷ entries))) (sym same) (0, omega arith, refl))
-        (λ _ differ. Contains-append_right (text entry.0 ∷ []) (texts_of text entries) x (here-or-left x some differ));
-  })
+  -- how many leaves there are from this one on
+  abbrev pub leaves-left : Option Leaf → ℕ
+  leaves-left None = 0
+  leaves-left (Some leaf) = length list - rank_at arena (slab_key leaf)
 
-  -- with the last entry behind them
-  pub left-and-last : IsEndEntry text old Last entry → entries_of text old ≡ entries ++ entry ∷ []
-  left-and-last end =
-      let same_texts : texts_of text entries ++ text entry.0 ∷ [] ≡ texts_of text (entries ++ entry ∷ []) = sym (map-append (λ (e : K × V). text e.0) entries (entry ∷ [])) in
-      one-list text old (entries_of text old) (entries ++ entry ∷ []) (are-entries text old) (record {
-        ascending = subst (AllPairs (λ a b. text_order a b ≡ Less)) same_texts (all_pairs_push (λ a b. text_order a b ≡ Less) (texts_of text entries) (text entry.0) are.ascending (last-above end));
-        each = All-append (IsEntry text old) entries (entry ∷ []) all-were (All-cons (IsEntry text old) entry [] end.is_entry (All-nil (IsEntry text old)));
-        all = λ x some. subst (λ all. Contains all x) same_texts (by_text x (text entry.0) (Contains (texts_of text entries ++ text entry.0 ∷ []) x)
-            (λ _ same. Contains-append_right (texts_of text entries) (text entry.0 ∷ []) x (0, omega arith, sym same))
-            (λ _ differ. Contains-append_left (texts_of text entries) (text entry.0 ∷ []) x (here-or-left x some differ)));
-      })
+  -- no page is before the first one
+  pub first-before : (first : Option Leaf) → IsFirst (λ anchor. anchor) arena first → IsEmptyBefore arena first
+  first-before None none = ap (λ l. entries_in (pages l)) none
+  first-before (Some leaf) (here, none) = (here, ap (λ l. entries_in (pages l)) none)
 
--- a list with an element is not empty
-end-there : {X : Type 0} (x : X) (xs : List X) → Contains xs x → xs ≢ []
-end-there x [] inside nil = absurd (omega (arith, inside.1))
-end-there x (y ∷ ys) inside nil = absurd (cc)
+  module _ (leaf : Leaf) (here : IsPlaced (λ anchor. anchor) arena leaf) where
+    -- behind an empty page
+    module _ (none : entries_in (pages here.left) ≡ []) (empty : here.entry.1.entries ≡ []) where
+      before-next : (entries_in (pages (here.left ++ here.entry ∷ []))) ≡ []
+      before-next =
+          ap entries_in (map-append page_of here.left (here.entry ∷ [])) ∙ entries_last (pages here.left) (page_of here.entry)
+          ∙ ap (λ l. l ++ here.entry.1.entries) none ∙ empty
 
--- facts of a result that may have an entry
-module _ {A E : Type 0} where
-  if-some-both : (r : Result (Option A) E) (P Q R : A → Type 0) → ((x : A) → P x → Q x → R x) → IfOk r (λ o. IfSome o P) → IfOk r (λ o. IfSome o Q) → IfOk r (λ o. IfSome o R)
-  if-some-both (Ok None) P Q R f p q = tt
-  if-some-both (Ok (Some x)) P Q R f p q = f x p q
-  if-some-both (Err e) P Q R f p q = tt
+      pub next-before : (next : Option Leaf) → IsNext (λ anchor. anchor) arena here next → IsEmptyBefore arena next
+      next-before None last = ap (λ l. entries_in (pages l)) (here.list ∙ ap (λ l. here.left ++ here.entry ∷ l) last) ∙ before-next
+      next-before (Some next) (there, is, behind) = (there, ap (λ l. entries_in (pages l)) is ∙ before-next)
 
-  if-none-both : (r : Result (Option A) E) (P Q R : Type 0) → (P → Q → R) → IfOk r (λ o. IfNone o P) → IfOk r (λ o. IfNone o Q) → IfOk r (λ o. IfNone o R)
-  if-none-both (Ok None) P Q R f p q = f p q
-  if-none-both (Ok (Some x)) P Q R f p q = tt
-  if-none-both (Err e) P Q R f p q = tt
+    within : length list ≡ length here.left + suc (length here.right)
+    within = ap length here.list ∙ length-append here.left (here.entry ∷ here.right)
 
--- the entry of the greatest text is the last one
-module _ {K V : Type 0} (text : K → List ℕ) where
-  last-is : (entries : List (K × V)) → AllPairs (λ a b. text_order a b ≡ Less) (texts_of text entries) → (entry : K × V) → Contains entries entry → All (λ other. text_order (text entry.0) (text other.0) ≢ Less) entries → slice_get entries (length entries - 1) ≡ Some entry
-  last-is [] ascending entry inside high = absurd (omega (arith, inside.1))
-  last-is (x ∷ []) ascending entry (zero, inside, is) high = ap Some is
-  last-is (x ∷ []) ascending entry (suc k, inside, is) high = absurd (omega (arith, inside))
-  last-is (x ∷ y ∷ rest) ascending entry (zero, inside, is) high =
-      absurd (All-head (λ other. text_order (text entry.0) (text other.0) ≢ Less) y rest (All-tail (λ other. text_order (text entry.0) (text other.0) ≢ Less) x (y ∷ rest) high)
-      (ap (λ e. text_order (text e.0) (text y.0)) (sym is) ∙ ascending 0 1 [] (omega arith) (omega arith)))
-  last-is (x ∷ y ∷ rest) ascending entry (suc k, inside, is) high =
-      let longer : length (x ∷ y ∷ rest) - 1 ≡ suc (length (y ∷ rest) - 1) = omega arith in
-      ap (slice_get (x ∷ y ∷ rest)) longer
-      ∙ last-is (y ∷ rest) (λ i j d less within. ascending (suc i) (suc j) d (omega (arith, less)) (omega (arith, within))) entry (k, omega (arith, inside), is) (All-tail (λ other. text_order (text entry.0) (text other.0) ≢ Less) x (y ∷ rest) high)
+    -- fewer leaves are left
+    pub next-fewer : (next : Option Leaf) → IsNext (λ anchor. anchor) arena here next → leaves-left next < leaves-left (Some leaf)
+    next-fewer None last = let at = rank-placed arena leaf here in let long = within in omega arith
+    next-fewer (Some next) (there, is, behind) =
+        let at = rank-placed arena leaf here in let long = within in
+        let then = rank-placed arena next there in let more = ap length is ∙ length-append here.left (here.entry ∷ []) in omega arith
 
-  pub last-found : {P : ℕ} (arena : NodeArena K V P) (o : Option (Bor K × Bor V)) → IfSome o (λ (key, value). IsEntry text arena (key.now, value.now)) → IfSome o (λ (key, value). (other : List ℕ) → HasEntry text arena other → text_order (text key.now) other ≢ Less) → IfNone o (IsEmpty text arena)
-      → option_map (λ (key, value). (key.now, value.now)) o ≡ slice_get (entries_of text arena) (length (entries_of text arena) - 1)
-  last-found arena None is high none = sym (ap (λ es. slice_get es (length es - 1)) (no-list text arena none))
-  last-found arena (Some (key, value)) is high none =
-      let are = are-entries text arena in
-      sym (last-is (entries_of text arena) are.ascending (key.now, value.now) (entry-listed text arena (key.now, value.now) is) (All-weaker (IsEntry text arena) (λ other. text_order (text key.now) (text other.0) ≢ Less) (λ other there. high (text other.0) (λ gone. let wrong : Some other ≡ None = sym there ∙ gone in absurd (cc))) (entries_of text arena) are.each))
+module _ {K V : Type 0} {P : ℕ} (arena : NodeArena (List ℕ) (Contents K V) P) where
+  -- how many leaves there are up to this one
+  abbrev pub leaves-up-to : Option (LeafPtr (List ℕ) (Contents K V) P) → ℕ
+  leaves-up-to None = 0
+  leaves-up-to (Some leaf) = suc (rank_at arena (slab_key leaf))
 
--- the entry at an end of an arena is that of the list
-module _ {K V : Type 0} {P : ℕ} (text : K → List ℕ) (arena : NodeArena K V P) (entry : K × V) where
-  there : (e : K × V) → IsEntry text arena e → HasEntry text arena (text e.0)
-  there e is gone = let wrong : Some e ≡ None = sym is ∙ gone in absurd (cc)
+  -- no page is behind the last one
+  pub last-behind : (last : Option (LeafPtr (List ℕ) (Contents K V) P)) → IsLast (λ anchor. anchor) arena last → IsEmptyBehind arena last
+  last-behind None none = ap (λ l. entries_in (pages l)) none
+  last-behind (Some leaf) (here, none) = (here, ap (λ l. entries_in (pages l)) none)
 
-  first-is : (all : List (K × V)) → AllPairs (λ a b. text_order a b ≡ Less) (texts_of text all) → Contains all entry → All (λ other. text_order (text entry.0) (text other.0) ≢ Greater) all → slice_get all 0 ≡ Some entry
-  first-is [] ascending (k, within, is) low = absurd (omega (arith, within))
-  first-is (x ∷ rest) ascending (zero, within, is) low = ap Some is
-  first-is (x ∷ rest) ascending (suc k, within, is) low =
-      let later : Contains (texts_of text rest) (text entry.0) = image_inside (λ e. text e.0) rest entry (text entry.0) refl (k, omega (arith, within), is) in
-      let above = none_below (text x.0) (text entry.0) (texts_of text rest) ascending later in
-      absurd (All-head (λ other. text_order (text entry.0) (text other.0) ≢ Greater) x rest low (nat_list_cmp_total.antisymm (text entry.0) (text x.0) ∙ ap ordering_reverse above))
+  module _ (leaf : LeafPtr (List ℕ) (Contents K V) P) (here : IsPlaced (λ anchor. anchor) arena leaf) where
+    -- before an empty page
+    module _ (none : entries_in (pages here.right) ≡ []) (empty : here.entry.1.entries ≡ []) where
+      behind-previous : entries_in (pages (here.entry ∷ here.right)) ≡ []
+      behind-previous = ap (λ l. l ++ entries_in (pages here.right)) empty ∙ none
 
-  first-at : IsEndEntry text arena First entry → slice_get (entries_of text arena) 0 ≡ Some entry
-  first-at end =
-      let are = are-entries text arena in
-      first-is (entries_of text arena) are.ascending (entry-listed text arena entry end.is_entry) (All-weaker (IsEntry text arena) (λ other. text_order (text entry.0) (text other.0) ≢ Greater) (λ other is. end.within (text other.0) (there other is)) (entries_of text arena) are.each)
+      pub previous-behind : (previous : Option (LeafPtr (List ℕ) (Contents K V) P)) → IsPrevious (λ anchor. anchor) arena here previous → IsEmptyBehind arena previous
+      previous-behind None first = ap (λ l. entries_in (pages l)) (here.list ∙ ap (λ l. l ++ here.entry ∷ here.right) first) ∙ behind-previous
+      previous-behind (Some previous) (there, is, behind) = (there, ap (λ l. entries_in (pages l)) behind ∙ behind-previous)
 
-  last-at : IsEndEntry text arena Last entry → slice_get (entries_of text arena) (length (entries_of text arena) - 1) ≡ Some entry
-  last-at end =
-      let are = are-entries text arena in
-      last-is text (entries_of text arena) are.ascending entry (entry-listed text arena entry end.is_entry) (All-weaker (IsEntry text arena) (λ other. text_order (text entry.0) (text other.0) ≢ Less) (λ other is. end.within (text other.0) (there other is)) (entries_of text arena) are.each)
+    -- fewer leaves are left
+    pub previous-fewer : (previous : Option (LeafPtr (List ℕ) (Contents K V) P)) → IsPrevious (λ anchor. anchor) arena here previous → leaves-up-to previous < leaves-up-to (Some leaf)
+    previous-fewer None first = omega arith
+    previous-fewer (Some previous) (there, is, behind) =
+        let at = rank-placed arena leaf here in let then = rank-placed arena previous there in
+        let more = ap length is ∙ length-append there.left (there.entry ∷ []) in omega arith
 
--- the entry at an end of a list, and a list with an entry at an end
-abbrev pub end_of : {X : Type 0} → End → List X → Option X
-end_of First xs = slice_get xs 0
-end_of Last xs = slice_get xs (length xs - 1)
+module _ {X : Type 0} where
+  pub some-there : (l : List X) → l ≢ [] → 0 < length l
+  some-there [] some = absurd (some refl)
+  some-there (x ∷ l) some = omega arith
 
-abbrev pub with_end : {X : Type 0} → End → X → List X → List X
-with_end First x xs = x ∷ xs
-with_end Last x xs = xs ++ x ∷ []
+  -- the first item, and those that are left without it
+  pub first-and-rest : (l rest : List X) (first : X) → slice_get l 0 ≡ Some first → rest ≡ remove l 0 → l ≡ first ∷ rest
+  first-and-rest [] rest first is left = absurd (cc)
+  first-and-rest (x ∷ l) rest first is left = ap (λ y. y ∷ l) (same_Some x first is) ∙ ap (λ m. first ∷ m) (sym left)
 
--- what the removal at an end of a tree is for the lists of a map's entries before and after it
-module _ {K V E : Type 0} {P : ℕ} {text : K → List ℕ} {old new : Art (NodeArena K V P) (OpaqueNodePtr K V P)} {end : End} {result : Result (Option (K × V)) E} (pops : PopsEntry text old new end result)
-    {before after : List (K × V)} (was : entries_of text old.arena ≡ before) (now : after ≡ entries_of text new.arena) where
-  pub popped-end : IfOk result (λ removed. IfSome removed (λ entry. before ≡ with_end end entry after))
-  popped-end =
-      if-some-both result (IsEndEntry text old.arena end) (λ entry. IsLeft text old.arena new.arena (text entry.0)) (λ entry. before ≡ with_end end entry after) (λ entry at left. subst (λ rest. before ≡ with_end end entry rest) (sym now) (sym was ∙ by_end end entry at left)) pops.removed pops.left
-    where
-      by_end : (end : End) (entry : K × V) → IsEndEntry text old.arena end entry → IsLeft text old.arena new.arena (text entry.0) → entries_of text old.arena ≡ with_end end entry (entries_of text new.arena)
-      by_end First entry at left = first-and-left text old.arena new.arena entry left at
-      by_end Last entry at left = left-and-last text old.arena new.arena entry left at
+  pub length-rest : (l rest : List X) (first : X) → l ≡ first ∷ rest → (n : ℕ) → n ≡ length l → n - 1 ≡ length rest
+  length-rest l rest first is n counted = let long = ap length is in omega arith
 
-  pub popped-none : IfOk result (λ removed. IfNone removed ((before ≡ []) × (after ≡ [])))
-  popped-none =
-      if-none-both result (IsEmpty text old.arena) (new ≡ old) ((before ≡ []) × (after ≡ []))
-      (λ empty kept. let nothing = no-list text old.arena empty in (sym was ∙ nothing, now ∙ ap (λ (tree : Art (NodeArena K V P) (OpaqueNodePtr K V P)). entries_of text tree.arena) kept ∙ nothing)) pops.none pops.empty_kept
+  -- the last item, and those that are left without it
+  pub last-and-rest : (l rest : List X) (last : X) (n : ℕ) → n ≡ length l → slice_get l (n - 1) ≡ Some last → rest ≡ remove l (n - 1) → l ≡ rest ++ last ∷ []
+  last-and-rest [] rest last n counted is left = absurd (cc)
+  last-and-rest (x ∷ []) rest last n counted is left =
+      let first : n - 1 ≡ 0 = omega (arith, counted) in
+      let here : slice_get (x ∷ []) 0 ≡ Some last = subst (λ m. slice_get (x ∷ []) m ≡ Some last) first is in
+      ap (λ y. y ∷ []) (same_Some x last here) ∙ ap (λ m. m ++ last ∷ []) (sym (left ∙ ap (remove (x ∷ [])) first))
+  last-and-rest (x ∷ y ∷ l) rest last n counted is left =
+      let more : n - 1 ≡ suc (length l) = omega (arith, counted) in
+      let here : slice_get (y ∷ l) (length l) ≡ Some last = subst (λ m. slice_get (x ∷ y ∷ l) m ≡ Some last) more is in
+      let fewer : suc (length l) - 1 ≡ length l = omega arith in
+      let later = last-and-rest (y ∷ l) (remove (y ∷ l) (length l)) last (suc (length l)) refl
+      (ap (slice_get (y ∷ l)) fewer ∙ here) (ap (remove (y ∷ l)) (sym fewer)) in
+      ap (λ m. x ∷ m) later ∙ ap (λ m. m ++ last ∷ []) (sym (left ∙ ap (remove (x ∷ y ∷ l)) more))
 
-  pub popped-refused : OnErr result (before ≢ [])
-  popped-refused =
-      on-err result (EndMeets text old.arena end (NeedsSmallerNode text old.arena)) (before ≢ []) (λ meets nil. end-there meets.0 (entries_of text old.arena) (entry-listed text old.arena meets.0 meets.1.is_entry) (was ∙ nil)) pops.refused
+  pub length-first : (l rest : List X) (last : X) → l ≡ rest ++ last ∷ [] → (n : ℕ) → n ≡ length l → n - 1 ≡ length rest
+  length-first l rest last is n counted = let long = ap length is ∙ length-append rest (last ∷ []) in omega arith
 
-  pub popped-kept : OnErr result (after ≡ before)
-  popped-kept = on-err result (SameEntries text old.arena new.arena) (after ≡ before) (λ same. now ∙ list-same text old.arena new.arena same ∙ was) pops.same_entries
+module _ {K V : Type 0} (cmp : K → K → Ordering) (total : IsTotalOrder cmp) where
+  -- the value of the first key, and those above it
+  pub value-first : (l rest : List (K × V)) (first : K × V) → l ≡ first ∷ rest → get_by (cmp first.0) l ≡ Some first.1
+  value-first l rest first is = ap (get_by (cmp first.0)) is ∙ ap (λ o. cond (is_eq o) (Some first.1) (get_by (cmp first.0) rest)) (tied_itself total first.0)
 
-  pub popped-needs : ((x : List ℕ) → NeedsSmallerNode text old.arena x → NeedsNode (OpaqueNodePtr K V P) (texts_of text (entries_of text old.arena)) x) → OnErr result (IfSome (end_of end before) (λ entry. NeedsNode (OpaqueNodePtr K V P) (texts_of text before) (text entry.0)))
-  popped-needs needs =
-      on-err result (EndMeets text old.arena end (NeedsSmallerNode text old.arena)) _
-      (λ meets. subst (λ entries. IfSome (end_of end entries) (λ entry. NeedsNode (OpaqueNodePtr K V P) (texts_of text entries) (text entry.0))) was
-      (subst (λ found. IfSome found (λ entry. NeedsNode (OpaqueNodePtr K V P) (texts_of text (entries_of text old.arena)) (text entry.0))) (sym (by_end end meets.0 meets.1)) (needs (text meets.0.0) meets.2))) pops.refused
-    where
-      by_end : (end : End) (entry : K × V) → IsEndEntry text old.arena end entry → end_of end (entries_of text old.arena) ≡ Some entry
-      by_end First entry at = first-at text old.arena entry at
-      by_end Last entry at = last-at text old.arena entry at
+  pub above-others : (l rest : List (K × V)) (first : K × V) → l ≡ first ∷ rest → IsOrdered cmp l → AllAbove (cmp first.0) rest
+  above-others l rest first is ordered = above-first cmp first rest (subst (IsOrdered cmp) is ordered)
+
+  -- the same of the last one
+  below-last : (rest : List (K × V)) (last : K × V) → IsOrdered cmp (rest ++ last ∷ []) → AllBelow (cmp last.0) rest
+  below-last [] last ordered = All-nil (λ entry. cmp last.0 entry.0 ≡ Greater)
+  below-last (other ∷ rest) last ordered =
+      let above = above-first cmp other (rest ++ last ∷ []) ordered in
+      let less : cmp other.0 last.0 ≡ Less = all-middle (λ entry. cmp other.0 entry.0 ≡ Less) rest last [] above in
+      All-cons (λ entry. cmp last.0 entry.0 ≡ Greater) other rest (total.antisymm last.0 other.0 ∙ ap ordering_reverse less)
+      (below-last rest last (ordered-right cmp (other ∷ []) (rest ++ last ∷ []) ordered))
+
+  pub below-others : (l rest : List (K × V)) (last : K × V) → l ≡ rest ++ last ∷ [] → IsOrdered cmp l → AllBelow (cmp last.0) rest
+  below-others l rest last is ordered = below-last rest last (subst (IsOrdered cmp) is ordered)
+
+  pub value-last : (l rest : List (K × V)) (last : K × V) → l ≡ rest ++ last ∷ [] → IsOrdered cmp l → get_by (cmp last.0) l ≡ Some last.1
+  value-last l rest last is ordered =
+      ap (get_by (cmp last.0)) is
+      ∙ get_by-middle (cmp last.0) rest (last ∷ []) [] (below-others l rest last is ordered) (All-nil (λ entry. cmp last.0 entry.0 ≡ Less))
+      ∙ value-first (last ∷ []) [] last refl
+
+module _ {X : Type 0} where
+  pub longer-first : (l rest : List X) (first : X) → l ≡ first ∷ rest → length rest + 1 ≡ length l
+  longer-first l rest first is = let long = ap length is in omega arith
+
+  pub longer-last : (l rest : List X) (last : X) → l ≡ rest ++ last ∷ [] → length rest + 1 ≡ length l
+  longer-last l rest last is = let long = ap length is ∙ length-append rest (last ∷ []) in omega arith

@@ -1,83 +1,104 @@
--- Entries that are joined to others.
-use Rattle.art_map.proofs.Names.{◌≡◌, ◌≢◌, ◌⊎◌, ◌∙◌, inl, inr, ℕ, Bool, true, false, cond, List, [], ◌∷◌, ◌++◌, append_assoc, append-nil, length, Contains, Option, Some, None, refl, sym, ap, subst, arith, nat_eq, pointwise, nat_list_cmp_total, is_some, match_ordering, ordering_reverse, Less, Greater, Contains-append_right, text_order, Clashes, put_entry, texts_of, SomeClashes, SomeIsNew, entry_with, put_all}
-use Rattle.art_map.proofs.CallLaws.{Ascend, ascend_rest, first_or_later, found_after_put, image_inside, later_there, none_below}
+-- The entries of a page, moved to the end of the page before it: the pages are still those of a map, with the same entries.
+use Rattle.std.proofs.Common.{◌≡◌, ◌∙◌, ℕ, ◌+◌, ◌≤◌, List, [], ◌∷◌, ◌++◌, All, length, append_assoc, sym, ap, subst}
+use Rattle.std.proofs.lemmas.List.Elements.{All-cons, All-append}
+use Rattle.std.specs.declared.cmp.Ordering.{Ordering}
+use Rattle.art_arena.specs.Arena.{LeafPtr, NodeArena}
+use Rattle.art_index.specs.Places.{IsPlaced}
+use Rattle.art_pages.specs.Contents.{Contents}
+use Rattle.art_pages.specs.Entries.{IsOrdered, AreKeys}
+use Rattle.art_pages.proofs.OrderLemmas.{ordered-left, ordered-right, ordered-same}
+use Rattle.art_map.specs.Joins.{AreJoinable}
+use Rattle.art_map.specs.Pages.{entries_in, map_entries, AreParted, IsEncoding, IsMap}
+use Rattle.art_map.specs.Trees.{page_of, pages_of}
+use Rattle.art_map.proofs.ChangeLemmas.{all-front, all-middle, all-around, entries-around, parted-joined}
+use Rattle.art_map.proofs.TreeLemmas.{pages, pages-around, pages-changed}
 
--- there is room, or no need of it
-pub room-or-none : {A B : Type 0} (needed : Bool) → (needed ≡ true → A) → (B → needed ≡ true) → A ⊎ (B → ⊥)
-room-or-none true room need = inl (room refl)
-room-or-none false room need = inr (λ b. let wrong : false ≡ true = need b in absurd (cc))
+module _ {K V : Type 0} (order : K → K → Ordering) (is_key : K → Type 0) (encoded : K → List ℕ)
+    (head : List (K × V)) (pages : List (List ℕ × List (K × V))) (map : IsMap order is_key encoded head pages)
+    (left : List (List ℕ × List (K × V))) (page next : List ℕ × List (K × V)) (right : List (List ℕ × List (K × V))) (is : pages ≡ left ++ page ∷ next ∷ right) where
+  -- the entries of both pages, with those before them and those behind them
+  parts : map_entries head pages ≡ (head ++ entries_in left) ++ ((page.1 ++ next.1) ++ entries_in right)
+  parts =
+      ap (map_entries head) is ∙ ap (λ l. head ++ l) (entries-around left page (next ∷ right))
+      ∙ ap (λ l. head ++ (entries_in left ++ l)) (sym (append_assoc page.1 next.1 (entries_in right)))
+      ∙ sym (append_assoc head (entries_in left) ((page.1 ++ next.1) ++ entries_in right))
 
-pub not-some : {A : Type 0} (o : Option A) → is_some o ≡ false → o ≡ None
-not-some None is = refl
-not-some (Some x) is = absurd (cc)
+  pub ordered-both : (cmp : K → K → Ordering) → order ≡ cmp → IsOrdered cmp (page.1 ++ next.1)
+  ordered-both cmp same =
+      ordered-left cmp (page.1 ++ next.1) (entries_in right)
+      (ordered-right cmp (head ++ entries_in left) ((page.1 ++ next.1) ++ entries_in right)
+      (ordered-same order cmp ((head ++ entries_in left) ++ ((page.1 ++ next.1) ++ entries_in right)) same (subst (IsOrdered order) parts map.ordered)))
 
-pub none-some : {A : Type 0} (o : Option A) → o ≡ None → is_some o ≡ true → ⊥
-none-some None none some = absurd (cc)
-none-some (Some x) none some = absurd (cc)
+  module _ (new : List (List ℕ × List (K × V))) (now : new ≡ left ++ (page.0, page.1 ++ next.1) ∷ right) where
+    pub same-joined : map_entries head new ≡ map_entries head pages
+    same-joined =
+        ap (map_entries head) now ∙ ap (λ l. head ++ l) (entries-around left (page.0, page.1 ++ next.1) right)
+        ∙ sym (append_assoc head (entries_in left) ((page.1 ++ next.1) ++ entries_in right)) ∙ sym parts
 
-pub no-entries : {X : Type 0} (xs : List X) → length xs ≡ 0 → xs ≡ []
-no-entries [] is = refl
-no-entries (x ∷ xs) is = absurd (omega (arith, is))
+    pub map-joined : IsMap order is_key encoded head new
+    map-joined =
+        let Own : List ℕ × List (K × V) → Type 0 = λ page. IsEncoding is_key encoded page.0 in
+        let anchors = subst (All Own) is map.anchors in record {
+          ordered = subst (IsOrdered order) (sym same-joined) map.ordered;
+          keys = subst (AreKeys is_key encoded) (sym same-joined) map.keys;
+          parted = subst (AreParted encoded head) (sym now) (parted-joined encoded head left page next right (subst (AreParted encoded head) is map.parted));
+          anchors = subst (All Own) (sym now)
+              (All-append Own left ((page.0, page.1 ++ next.1) ∷ right) (all-front Own left (page ∷ next ∷ right) anchors)
+              (All-cons Own (page.0, page.1 ++ next.1) right (all-middle Own left page (next ∷ right) anchors)
+              (all-around Own (left ++ page ∷ []) next right (subst (All Own) (sym (append_assoc left (page ∷ []) (next ∷ right))) anchors))));
+        }
 
--- something holds of some of a list
-module _ {X : Type 0} (P : X → Type 0) where
-  abbrev pub SomeOf : List X → Type 0
-  SomeOf xs = (x : X) × Contains xs x × P x
+module _ {K V : Type 0} {P : ℕ} (arena : NodeArena (List ℕ) (Contents K V) P) (first second : LeafPtr (List ℕ) (Contents K V) P) where
+  -- two pages beside each other can be joined, as the first one has memory for the entries of both
+  pub joinable : (low : IsPlaced (λ anchor. anchor) arena first) (high : IsPlaced (λ anchor. anchor) arena second)
+      → high.left ≡ low.left ++ low.entry ∷ [] → low.right ≡ high.entry ∷ high.right
+      → (one other : Contents K V) → one ≡ low.entry.1 → other ≡ high.entry.1 → length one.entries + length other.entries ≤ one.capacity
+      → AreJoinable arena first second
+  joinable low high left right one other one_is other_is room = record {
+    low = low;
+    high = high;
+    left = left;
+    right = right;
+    room = subst (λ (p : Contents K V). length p.entries + length high.entry.1.entries ≤ p.capacity) one_is
+        (subst (λ (p : Contents K V). length one.entries + length p.entries ≤ one.capacity) other_is room);
+  }
 
-  pub some-later : (x : X) (xs : List X) → SomeOf xs → SomeOf (x ∷ xs)
-  some-later x xs (y, inside, is) = (y, later_there x y xs inside, is)
+module _ {K V : Type 0} {P : ℕ} (old : NodeArena (List ℕ) (Contents K V) P) (first second : LeafPtr (List ℕ) (Contents K V) P) (two : AreJoinable old first second) where
+  beside : pages_of old ≡ pages two.low.left ++ page_of two.low.entry ∷ page_of two.high.entry ∷ pages two.high.right
+  beside = pages-around old first two.low ∙ ap (λ l. pages two.low.left ++ page_of two.low.entry ∷ pages l) two.right
 
-  pub some-first : (x : X) (xs : List X) → P x → SomeOf (x ∷ xs)
-  some-first x xs is = (x, (0, omega arith, refl), is)
+  -- the two pages, as they are when the second one is out of the tree
+  module _ (low high : Contents K V) (low_is : low ≡ two.low.entry.1) (high_is : high.entries ≡ two.high.entry.1.entries) where
+    pub room-there : length low.entries + length high.entries ≤ low.capacity
+    room-there =
+        subst (λ (p : Contents K V). length p.entries + length high.entries ≤ p.capacity) (sym low_is)
+        (subst (λ (l : List (K × V)). length two.low.entry.1.entries + length l ≤ two.low.entry.1.capacity) (sym high_is) two.room)
 
-  pub some-rest : (x : X) (xs : List X) → (P x → ⊥) → SomeOf (x ∷ xs) → SomeOf xs
-  some-rest x xs never (y, inside, is) = by_place (first_or_later x y xs inside)
-    where
-      by_place : (x ≡ y) ⊎ Contains xs y → SomeOf xs
-      by_place (inl same) = absurd (never (subst P (sym same) is))
-      by_place (inr later) = (y, later, is)
+    module _ (order : K → K → Ordering) (is_key : K → Type 0) (encoded : K → List ℕ) (head : List (K × V)) (map_is : IsMap order is_key encoded head (pages_of old)) where
+      pub ordered-leaves : (cmp : K → K → Ordering) → order ≡ cmp → IsOrdered cmp (low.entries ++ high.entries)
+      ordered-leaves cmp same =
+          subst (λ (p : Contents K V). IsOrdered cmp (p.entries ++ high.entries)) (sym low_is)
+          (subst (λ (l : List (K × V)). IsOrdered cmp (two.low.entry.1.entries ++ l)) (sym high_is)
+          (ordered-both order is_key encoded head (pages_of old) map_is (pages two.low.left) (page_of two.low.entry) (page_of two.high.entry) (pages two.high.right) beside cmp same))
 
-  pub none-of-none : SomeOf [] → ⊥
-  none-of-none (y, inside, is) = omega (arith, inside.1)
+      -- and then all entries are in the first one
+      module _ (mid new : NodeArena (List ℕ) (Contents K V) P) (whole : Contents K V) (whole_is : whole.entries ≡ low.entries ++ high.entries)
+          (stays : (now : IsPlaced (λ anchor. anchor) mid first) × (now.left ≡ two.low.left) × (now.entry ≡ two.low.entry) × (now.right ≡ two.high.right))
+          (changed : (now : IsPlaced (λ anchor. anchor) new first) × (now.left ≡ stays.0.left) × (now.entry ≡ (stays.0.entry.0, whole)) × (now.right ≡ stays.0.right)) where
+        entries-are : whole.entries ≡ two.low.entry.1.entries ++ two.high.entry.1.entries
+        entries-are = whole_is ∙ (λ i. (low_is i).entries ++ high_is i)
 
-module _ {K V : Type 0} (text : K → List ℕ) where
-  -- an entry above all others comes behind them
-  pub put-last : (entries : List (K × V)) (entry : K × V) (rest : List (K × V)) → Ascend (texts_of text (entries ++ entry ∷ rest)) → put_entry text entries entry ≡ entries ++ entry ∷ []
-  put-last [] entry rest ascend = refl
-  put-last (other ∷ entries) entry rest ascend =
-      let inside : Contains (entries ++ entry ∷ rest) entry = Contains-append_right entries (entry ∷ rest) entry (0, omega arith, refl) in
-      let there : Contains (texts_of text (entries ++ entry ∷ rest)) (text entry.0) = image_inside (λ (e : K × V). text e.0) (entries ++ entry ∷ rest) entry (text entry.0) refl inside in
-      let less : text_order (text other.0) (text entry.0) ≡ Less = none_below (text other.0) (text entry.0) (texts_of text (entries ++ entry ∷ rest)) ascend there in
-      let greater : text_order (text entry.0) (text other.0) ≡ Greater = nat_list_cmp_total.antisymm (text entry.0) (text other.0) ∙ ap ordering_reverse less in
-      ap (λ o. match_ordering o (entry ∷ other ∷ entries) (entry ∷ entries) (other ∷ put_entry text entries entry)) greater
-      ∙ ap (λ es. other ∷ es) (put-last entries entry rest (ascend_rest (text other.0) (texts_of text (entries ++ entry ∷ rest)) ascend))
+        now-pages : pages_of new ≡ pages two.low.left ++ (two.low.entry.0, two.low.entry.1.entries ++ two.high.entry.1.entries) ∷ pages two.high.right
+        now-pages =
+            pages-changed mid new first whole stays.0 changed
+            ∙ (λ i. pages (stays.1 i) ++ ((stays.2 i).0, entries-are i) ∷ pages (stays.3 i))
 
-  -- entries that ascend are put behind those below them
-  put-behind : (entries others : List (K × V)) → Ascend (texts_of text (entries ++ others)) → put_all text entries others ≡ entries ++ others
-  put-behind entries [] ascend = sym (append-nil entries)
-  put-behind entries (entry ∷ others) ascend =
-      let parts : (entries ++ entry ∷ []) ++ others ≡ entries ++ entry ∷ others = append_assoc entries (entry ∷ []) others in
-      ap (λ es. put_all text es others) (put-last entries entry others ascend)
-      ∙ put-behind (entries ++ entry ∷ []) others (subst (λ es. Ascend (texts_of text es)) (sym parts) ascend) ∙ parts
+        pub leaves-joined : IsMap order is_key encoded head (pages_of new)
+        leaves-joined =
+            map-joined order is_key encoded head (pages_of old) map_is (pages two.low.left) (page_of two.low.entry) (page_of two.high.entry) (pages two.high.right) beside
+            (pages_of new) now-pages
 
-  pub put-in-none : (entries others : List (K × V)) → entries ≡ [] → Ascend (texts_of text others) → others ≡ put_all text entries others
-  put-in-none entries others none ascend = sym (ap (λ es. put_all text es others) none ∙ put-behind [] others ascend)
-
-  pub none-clash-with-none : (entries others : List (K × V)) → entries ≡ [] → ¬ SomeClashes text entries others
-  none-clash-with-none entries others none (other, inside, clash) =
-      let in-none : Clashes [] (text other.0) = subst (λ es. Clashes (texts_of text es) (text other.0)) none clash in
-      omega (arith, in-none.1.1)
-
-  -- a text that is new once an entry was put was new before
-  none-before : (entries : List (K × V)) (entry : K × V) (x : List ℕ) → entry_with text (put_entry text entries entry) x ≡ None → entry_with text entries x ≡ None
-  none-before entries entry x none = by_test (pointwise nat_eq (text entry.0) x) (sym (found_after_put text entries entry x) ∙ none)
-    where
-      by_test : (t : Bool) → cond t (Some entry) (entry_with text entries x) ≡ None → entry_with text entries x ≡ None
-      by_test true is = absurd (cc)
-      by_test false is = is
-
-  pub rest-not-new : (entries : List (K × V)) (entry : K × V) (others : List (K × V)) → (SomeIsNew text entries (entry ∷ others) → ⊥) → SomeIsNew text (put_entry text entries entry) others → ⊥
-  rest-not-new entries entry others none (other, inside, new) = none (other, later_there entry other others inside, none-before entries entry (text other.0) new)
-
-  pub first-not-new : (entries : List (K × V)) (entry : K × V) (others : List (K × V)) → (SomeIsNew text entries (entry ∷ others) → ⊥) → entry_with text entries (text entry.0) ≢ None
-  first-not-new entries entry others none new = none (some-first (λ other. entry_with text entries (text other.0) ≡ None) entry others new)
+        pub leaves-same : map_entries head (pages_of new) ≡ map_entries head (pages_of old)
+        leaves-same =
+            same-joined order is_key encoded head (pages_of old) map_is (pages two.low.left) (page_of two.low.entry) (page_of two.high.entry) (pages two.high.right) beside
+            (pages_of new) now-pages

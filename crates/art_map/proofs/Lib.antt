@@ -1,32 +1,29 @@
-mod Names
-mod BoundLemmas
-pub mod CallLaws
-mod CalledLemmas
-mod ClashLemmas
-mod CursorLemmas
-mod CursorStarts
-mod EndLemmas
-mod EnteredLemmas
-mod EntryLemmas
-mod ExtendLemmas
-mod FrontLemmas
-mod JoinLemmas
-mod LeafCounts
-mod LentLemmas
-mod LinkLemmas
-mod ListLemmas
-mod LoadedLemmas
-mod MemoryLemmas
-mod MovingLemmas
-mod PrefixRemovals
-mod RangeLemmas
-mod RefusalLemmas
-mod RunLemmas
-mod ShrinkLemmas
-mod SlotLemmas
-mod SortLemmas
-mod SplitLemmas
-mod TextLemmas
-mod TogetherLemmas
-mod ViewLemmas
-mod WalkLemmas
+pub mod PartLemmas
+pub mod ChangeLemmas
+pub mod SeatLemmas
+pub mod EntryLemmas
+pub mod PutLemmas
+pub mod TreeLemmas
+pub mod CutLemmas
+pub mod RunLemmas
+pub mod GapLemmas
+pub mod RoomLemmas
+pub mod TakeLemmas
+pub mod LastLemmas
+pub mod EndLemmas
+pub mod FewerLemmas
+pub mod ManyLemmas
+pub mod FirstPageLemmas
+pub mod MovingLemmas
+pub mod ValueLemmas
+pub mod SpotLemmas
+pub mod BoundLemmas
+pub mod WithinLemmas
+pub mod SpanLemmas
+pub mod WalkLemmas
+pub mod CalledLemmas
+pub mod KeyBoundLemmas
+pub mod InsideLemmas
+pub mod SwapLemmas
+pub mod JoinLemmas
+pub mod CursorLemmas

@@ -1,12 +1,8 @@
--- The entry of a key in a map: the map that it borrows, its key, and what the map ends as.
-use Rattle.std.specs.Prelude.{◌≡◌, ℕ, List, Bool, true, false, Option, None, Result, ⊤}
-use Rattle.std.specs.Borrow.{RattleType, Fml, MutBor}
-use Rattle.std.specs.Option.{option_map}
-use Rattle.art_tree.specs.Entries.{entries_of}
-use Rattle.art_map.specs.Entries.{entry_with}
-use Rattle.art_map.specs.EnteredValues.{LendsValueOf}
-use Rattle.art_map.specs.MapLending.{LendsValueIn}
-use Rattle.art_map.specs.contracts.view.EntryList as list
+-- The entry of a key in a map: the map that it borrows, its key and its value.
+use Rattle.std.specs.Prelude.{List, Bool, true, false, Option, None}
+use Rattle.std.specs.Borrow.{MutBor}
+use Rattle.std.specs.declared.cmp.Ordering.{Ordering}
+use Rattle.art_pages.specs.Entries.{get_by}
 use Rattle.art_map.specs.declared.entry.EntryOver.{EntryOver}
 use Rattle.art_map.specs.declared.entry.EntryOver.TheVariants.{Occupied, Vacant}
 
@@ -26,21 +22,7 @@ module _ {M K : Type 0} where
   is_occupied (Occupied entry) = true
   is_occupied (Vacant entry) = false
 
--- the value under this key
-abbrev pub value_with : {K V : Type 0} → (K → List ℕ) → List (K × V) → K → Option V
-value_with text entries key = option_map (λ entry. entry.1) (entry_with text entries (text key))
-
-module _ {K V : Type 0} (text : K → List ℕ) where
-  -- the value of an entry that is there
-  abbrev pub entry_value : EntryOver (List (K × V)) K → Option V
-  entry_value (Occupied entry) = value_with text entry.map.now entry.key
-  entry_value (Vacant entry) = None
-
-module _ (K V P : RattleType) (text : K.Denot → List ℕ) (is_key : K.Denot → Type 0) (map : MutBor (List (K.Denot × V.Denot))) (key : K.Denot) where
-  -- a map ends with the value that was left behind the reference under the key, or with the entries that it had
-  abbrev pub LendsEntered : {E : Type 0} → Result (MutBor V.Denot) E → Fml
-  LendsEntered result = LendsValueOf K V P (list.the_row K V) text is_key (λ tree. entries_of text tree.arena) (λ entries. entries) (λ old new fact. ⊤) map key result
-
-  -- a map ends with the value that was left behind the reference in the entry of the key, or with the entries that it had
-  abbrev pub LendsOccupied : Option (MutBor V.Denot) → Fml
-  LendsOccupied result = LendsValueIn K V P (list.the_row K V) text is_key (λ tree. entries_of text tree.arena) (λ entries. entries) (λ old new listed fact. new ≡ listed) map (text key) result
+-- the value of an entry that is there
+abbrev pub entry_value : {K V : Type 0} → (K → K → Ordering) → EntryOver (List (K × V)) K → Option V
+entry_value cmp (Occupied entry) = get_by (cmp entry.key) entry.map.now
+entry_value cmp (Vacant entry) = None

@@ -1,158 +1,182 @@
-//! A walk along the leaves of a tree that changes: the list of the entries is what is behind, and what
-//! begins at a leaf.
-ghost use Rattle.std.specs.Prelude.{◌≡◌, ◌+◌, ◌∷◌, ◌++◌, [], List, Option, ℕ, false, true, All, Some, IfOk, OnErr, OnOk, is_ok, length};
+//! Cursors: a gap between two entries of a map, which moves over one entry at a time.
+ghost use Rattle.std.specs.Prelude.{◌≡◌, ◌-◌, ◌∷◌, ◌++◌, [], true, false, length, slice_get, IfNone, IfSome, ⊤};
 ghost use Rattle.std.specs.Option.{option_map};
-ghost use Rattle.art_nodes.specs.Leaf.{leaf_key, leaf_value};
-ghost use Rattle.art_nodes.specs.Pointers.{slab_key};
-ghost use Rattle.art_nodes.specs.declared.pointers.OpaqueNodePtr.{OpaqueNodePtr as Pointer};
-ghost use Rattle.art_arena.specs.Arena.{SameNodes};
-ghost use Rattle.art_arena.specs.Links.{HoldsLeaf, leaf_at};
-ghost use Rattle.art_tree.specs.Entries.{entries_of};
-ghost use Rattle.art_tree.specs.Refusals.{texts_of};
-ghost use Rattle.art_tree.specs.Sides.{is_before};
-ghost use Rattle.art_map.specs.Cursors.{HoldsFirst, IsSplit, IsPassed, IsVisit, MayVisit};
-ghost use Rattle.art_map.specs.Memory.{KeepsRoom, RemovesEachInRoom};
-ghost use Rattle.art_map.specs.Shrinking.{NeedsNode};
+ghost use Rattle.art_map.specs.Cursors.{AreSides, gap_sides};
 
-use crate::keeps::Keeps;
-use crate::map::laws::removals_need_nodes;
-use crate::nearest::nearest_leaf;
-use crate::range::is_before;
-use art_arena::{End, LeafPtr};
-use art_bytes::AsBytes;
-use art_tree::laws::room_lasts;
-use art_tree::{ArtTree, Side};
+use crate::iter::{EntriesOf, HasPages, Iter};
+use crate::map::{HoldsPages, Leaf, Map, MapOver, Tree};
+use art_keys::{KeyBytes, RadixKey};
 use std::alloc::AllocError;
+use std::marker::Model;
+use std::ops::Bound;
 
-/// The first leaf after this side of the key, where the list is cut in two. Takes no memory.
-pub(crate) fn cut_at<K: AsBytes, V, const PREFIX_LEN: usize>(
-    tree: &ArtTree<K, V, PREFIX_LEN>,
-    side: Side,
-    key: &[u8],
-) -> Option<LeafPtr<K, V, PREFIX_LEN>>
-    ensures { (before : List (K × V)) × (after : List (K × V)) ×
-        IsSplit K.text tree.now.arena before (option_map slab_key result) after ×
-        All (λ entry. is_before side key.now (K.text entry.0) ≡ true) before ×
-        All (λ entry. is_before side key.now (K.text entry.0) ≡ false) after }
-{
-    let _root = tree.root()?;
-    nearest_leaf(tree, side, key, End::First)
+/// A gap between two entries of a map, or before the first, or after the last. Callers name it [`Cursor`].
+#[derive(Drop)]
+pub struct CursorOver<'a, T: HoldsPages<K, V> + HasPages<L, K, V>, L, K: KeyBytes, V> {
+    map: &'a MapOver<T, K, V>,
+    // The entries on one side of the gap. Those on the other side are sought when they are asked for.
+    entries: EntriesOf<'a, T, L, K, V>,
+    // Whether they are those after the gap.
+    are_after: bool,
 }
 
-/// Whether the key of a leaf comes before this side of the key.
-pub(crate) fn leaf_is_before<K: AsBytes, V, const PREFIX_LEN: usize>(
-    tree: &ArtTree<K, V, PREFIX_LEN>,
-    leaf: LeafPtr<K, V, PREFIX_LEN>,
-    side: Side,
-    key: &[u8],
-) -> bool
-    requires { HoldsLeaf tree.now.arena (slab_key leaf) }
-    ensures { (node : _) → leaf_at tree.now.arena (slab_key leaf) ≡ Some node →
-        result ≡ is_before side key.now (K.text (leaf_key node)) }
-{
-    is_before(side, key, tree.arena().as_key_ref(leaf).as_bytes())
+impl<'a, T: HoldsPages<K, V> + HasPages<L, K, V>, L, K: KeyBytes, V> Model
+    for CursorOver<'a, T, L, K, V> {
+    ghost use Rattle.std.specs.Prelude.{List};
+    ghost use Rattle.art_map.specs.Cursors.{AreSides, gap_sides};
+
+    ghost Value = { List (K × V) × List (K × V) };
+
+    ghost view = { λ cursor. gap_sides cursor.map.now cursor.are_after cursor.entries };
+
+    ghost invariant = { λ cursor. AreSides cursor.map.now
+        (gap_sides cursor.map.now cursor.are_after cursor.entries) };
 }
 
-/// The leaf behind this one.
-pub(crate) fn leaf_behind<K: AsBytes, V, const PREFIX_LEN: usize>(
-    tree: &ArtTree<K, V, PREFIX_LEN>,
-    leaf: LeafPtr<K, V, PREFIX_LEN>,
-) -> Option<LeafPtr<K, V, PREFIX_LEN>>
-    requires { HoldsLeaf tree.now.arena (slab_key leaf) }
-    ensures { (before : List (K × V)) (entry : K × V) (after : List (K × V)) →
-        IsSplit K.text tree.now.arena before (Some (slab_key leaf)) (entry ∷ after) →
-        IsSplit K.text tree.now.arena (before ++ entry ∷ []) (option_map slab_key result) after }
-{
-    let _root = tree.root();
-    tree.arena().as_ref(leaf).next()
-}
+/// A cursor of a map, which stands in a gap: between two entries, before the first, or after the last.
+/// Contracts see the list of the entries before the gap and that of those after it, both in ascending
+/// order of their keys.
+pub type Cursor<'a, K, V> = CursorOver<'a, Tree<K, V>, Leaf<K, V>, K, V>;
 
-// Tests the entry of a leaf. The test may leave another value in it.
-fn test_at<K: AsBytes, V, const PREFIX_LEN: usize, F: Keeps<K, V>>(
-    tree: &mut ArtTree<K, V, PREFIX_LEN>,
-    leaf: LeafPtr<K, V, PREFIX_LEN>,
-    test: &mut F,
-) -> bool
-    requires held { HoldsLeaf tree.old.arena (slab_key leaf) }
-    requires accepted { (node : _) → leaf_at tree.old.arena (slab_key leaf) ≡ Some node →
-        F.accepts test.old (leaf_key node) (leaf_value node) }
-    ensures tested { (before : List (K × V)) (entry : K × V) (after : List (K × V)) →
-        IsSplit K.text tree.old.arena before (Some (slab_key leaf)) (entry ∷ after) →
-        (value : V) × F.step test.old entry.0 entry.1 result value test.new ×
-        IsSplit K.text tree.new.arena before (Some (slab_key leaf)) ((entry.0, value) ∷ after) }
-    ensures room { KeepsRoom tree.old.arena tree.new.arena }
+/// The gap of a map after or before these entries.
+pub(crate) fn cursor_at<'a, K: KeyBytes, V>(
+    map: &'a Map<K, V>,
+    entries: Iter<'a, K, V>,
+    are_after: bool,
+) -> Cursor<'a, K, V>
+    requires { AreSides map.now (gap_sides map.now are_after entries) }
+    ensures { result ≡ gap_sides map.now are_after entries.entry }
 {
-    let _root = tree.root();
-    let (key, value) = tree.as_key_ref_value_mut(leaf);
-    test.keeps(key, value)
-}
-
-/// Removes the entry of a leaf and returns it. Fails only where that needs a node, and then the entries
-/// and the leaves are unchanged.
-pub(crate) fn remove_at<K: AsBytes, V, const PREFIX_LEN: usize>(
-    tree: &mut ArtTree<K, V, PREFIX_LEN>,
-    leaf: LeafPtr<K, V, PREFIX_LEN>,
-) -> Result<(K, V), AllocError>
-    requires { HoldsLeaf tree.old.arena (slab_key leaf) }
-    ensures taken { (before : List (K × V)) (entry : K × V) (after : List (K × V)) →
-        IsSplit K.text tree.old.arena before (Some (slab_key leaf)) (entry ∷ after) →
-        IfOk result (λ taken. taken ≡ entry) }
-    ensures removed { (before : List (K × V)) (entry : K × V) (after : List (K × V))
-        (next : Option ℕ) →
-        IsSplit K.text tree.old.arena before (Some (slab_key leaf)) (entry ∷ after) →
-        HoldsFirst tree.old.arena next after →
-        OnOk result (IsSplit K.text tree.new.arena before next after) }
-    ensures needs_node { (before : List (K × V)) (entry : K × V) (after : List (K × V)) →
-        IsSplit K.text tree.old.arena before (Some (slab_key leaf)) (entry ∷ after) →
-        OnErr result (NeedsNode (Pointer K V PREFIX_LEN)
-        (texts_of K.text (entries_of K.text tree.new.arena)) (K.text entry.0)) }
-    ensures same_entries { OnErr result
-        (entries_of K.text tree.new.arena ≡ entries_of K.text tree.old.arena) }
-    ensures same_nodes { OnErr result (SameNodes tree.old.arena tree.new.arena) }
-    ensures room { OnOk result (RemovesEachInRoom tree.old.arena tree.new.arena 1 true) }
-    ensures no_room { OnErr result (RemovesEachInRoom tree.old.arena tree.new.arena 0 false) }
-{
-    room_lasts::<K, V, PREFIX_LEN>();
-    removals_need_nodes(tree);
-    let _root = tree.root();
-    let entry = tree.remove_leaf(leaf)?;
-    Ok(entry)
-}
-
-/// Tests the entry of a leaf, which stays whatever the test returns, and returns the leaf behind it.
-pub(crate) fn pass_at<K: AsBytes, V, const PREFIX_LEN: usize, F: Keeps<K, V>>(
-    tree: &mut ArtTree<K, V, PREFIX_LEN>,
-    leaf: LeafPtr<K, V, PREFIX_LEN>,
-    test: &mut F,
-) -> Option<LeafPtr<K, V, PREFIX_LEN>>
-    requires { MayVisit K.text F.accepts test.old tree.old.arena (slab_key leaf) }
-    ensures passed { IsPassed K.text F.step test.old test.new tree.old.arena tree.new.arena
-        (slab_key leaf) result }
-    ensures room { KeepsRoom tree.old.arena tree.new.arena }
-{
-    let _keeps = test_at(tree, leaf, test);
-    leaf_behind(tree, leaf)
-}
-
-/// Tests the entry of a leaf, removes it where the test says so, and returns the leaf behind it. The
-/// removal fails only where it needs a node: the entry stays, with the value that the test left.
-pub(crate) fn retain_at<K: AsBytes + Drop, V: Drop, const PREFIX_LEN: usize, F: Keeps<K, V>>(
-    tree: &mut ArtTree<K, V, PREFIX_LEN>,
-    leaf: LeafPtr<K, V, PREFIX_LEN>,
-    test: &mut F,
-) -> Result<Option<LeafPtr<K, V, PREFIX_LEN>>, AllocError>
-    requires { MayVisit K.text F.accepts test.old tree.old.arena (slab_key leaf) }
-    ensures visit { IsVisit K.text F.step test.old test.new tree.old.arena tree.new.arena
-        (slab_key leaf) result }
-    ensures room { (gone : ℕ) × (length (entries_of K.text tree.old.arena)
-        ≡ length (entries_of K.text tree.new.arena) + gone)
-        × RemovesEachInRoom tree.old.arena tree.new.arena gone (is_ok result) }
-{
-    let keeps = test_at(tree, leaf, test);
-    let next = leaf_behind(tree, leaf);
-    if keeps {
-        return Ok(next);
+    CursorOver {
+        map,
+        entries,
+        are_after,
     }
-    remove_at(tree, leaf)?;
-    Ok(next)
+}
+
+// Another iterator over the entries that are left.
+fn same_entries<'a, K: KeyBytes, V>(entries: &Iter<'a, K, V>) -> Iter<'a, K, V>
+    ensures { result ≡ entries.now }
+{
+    match entries.clone() {
+        Ok(copy) => copy,
+        Err(_) => unreachable!(),
+    }
+}
+
+// The entries above the last of these, which are those before a gap; all where there are none.
+fn entries_above<'a, K: RadixKey, V>(
+    map: &'a Map<K, V>,
+    mut before: Iter<'a, K, V>,
+) -> Iter<'a, K, V>
+    requires { AreSides map.now (gap_sides map.now false before) }
+    ensures { AreSides map.now (before.entry, result) }
+{
+    let Some((last, _)) = before.next_back() else {
+        return map.iter();
+    };
+    let end: Bound<&K> = Bound::Unbounded;
+    map.range((Bound::Excluded(last), end))
+}
+
+// The entries below the first of these, which are those after a gap; all where there are none.
+fn entries_below<'a, K: RadixKey, V>(
+    map: &'a Map<K, V>,
+    mut after: Iter<'a, K, V>,
+) -> Iter<'a, K, V>
+    requires { AreSides map.now (gap_sides map.now true after) }
+    ensures { AreSides map.now (result, after.entry) }
+{
+    let Some((first, _)) = after.next() else {
+        return map.iter();
+    };
+    let start: Bound<&K> = Bound::Unbounded;
+    map.range((start, Bound::Excluded(first)))
+}
+
+impl<'a, K: RadixKey, V> Cursor<'a, K, V> {
+    // The entries after the gap.
+    fn after(&self) -> Iter<'a, K, V>
+        ensures { result ≡ self.now.1 }
+    {
+        let entries = same_entries(&self.entries);
+        if self.are_after {
+            return entries;
+        }
+        entries_above(self.map, entries)
+    }
+
+    // The entries before the gap.
+    fn before(&self) -> Iter<'a, K, V>
+        ensures { result ≡ self.now.0 }
+    {
+        let entries = same_entries(&self.entries);
+        if self.are_after {
+            return entries_below(self.map, entries);
+        }
+        entries
+    }
+
+    /// Moves over the entry after the gap, and returns it. At the end of the map it stays where it is.
+    ///
+    /// Takes constant time, and one way down the tree for the first move that follows a move back.
+    pub fn next(&mut self) -> Option<(&'a K, &'a V)>
+        ensures returned { IfSome result (λ entry. self.old.1 ≡ (entry.0.now, entry.1.now) ∷ self.new.1) }
+        ensures passed { IfSome result (λ entry. self.new.0 ≡ self.old.0 ++ (entry.0.now, entry.1.now) ∷ []) }
+        ensures none { IfNone result (self.old.1 ≡ []) }
+        ensures stays { IfNone result (self.new ≡ self.old) }
+    {
+        let mut after = self.after();
+        let entry = after.next();
+        self.entries = after;
+        self.are_after = true;
+        entry
+    }
+
+    /// Moves back over the entry before the gap, and returns it. At the start of the map it stays where
+    /// it is.
+    ///
+    /// Takes constant time, and one way down the tree for the first move that follows a move forward.
+    pub fn prev(&mut self) -> Option<(&'a K, &'a V)>
+        ensures returned { IfSome result (λ entry. self.old.0 ≡ self.new.0 ++ (entry.0.now, entry.1.now) ∷ []) }
+        ensures passed { IfSome result (λ entry. self.new.1 ≡ (entry.0.now, entry.1.now) ∷ self.old.1) }
+        ensures none { IfNone result (self.old.0 ≡ []) }
+        ensures stays { IfNone result (self.new ≡ self.old) }
+    {
+        let mut before = self.before();
+        let entry = before.next_back();
+        self.entries = before;
+        self.are_after = false;
+        entry
+    }
+
+    /// The entry after the gap. The cursor stays where it is. Costs as much as [`next`](Self::next).
+    pub fn peek_next(&self) -> Option<(&'a K, &'a V)>
+        ensures { option_map (λ entry. (entry.0.now, entry.1.now)) result ≡ slice_get self.now.1 0 }
+    {
+        self.after().next()
+    }
+
+    /// The entry before the gap. The cursor stays where it is. Costs as much as [`prev`](Self::prev).
+    pub fn peek_prev(&self) -> Option<(&'a K, &'a V)>
+        ensures { option_map (λ entry. (entry.0.now, entry.1.now)) result
+            ≡ slice_get self.now.0 (length self.now.0 - 1) }
+    {
+        self.before().next_back()
+    }
+}
+
+/// Another cursor in the same gap. Takes no memory and never fails.
+impl<'a, K: KeyBytes, V> Clone for Cursor<'a, K, V> {
+    ghost is_clone = { λ cursor copy. copy ≡ cursor };
+
+    ghost is_infallible = { λ _. ⊤ };
+
+    fn clone(&self) -> Result<Cursor<'a, K, V>, AllocError> {
+        Ok(CursorOver {
+            map: self.map,
+            entries: same_entries(&self.entries),
+            are_after: self.are_after,
+        })
+    }
 }

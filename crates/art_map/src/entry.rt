@@ -1,20 +1,18 @@
 //! The entry of a key in a map, whether it is there or not.
-ghost use Rattle.std.specs.Prelude.{◌≡◌, ◌≢◌, IfErr, IfNone, IfOk, IfSome, OnErr, OnOk, None, Some, is_some};
+ghost use Rattle.std.specs.Prelude.{◌≡◌, ◌^◌, ◌≤◌, ◌↔◌, IfErr, IfNone, IfOk, IfSome, OnErr, None, Some, is_some, length};
 ghost use Rattle.std.specs.Borrow.{MutBor, sem};
-ghost use Rattle.std.specs.Fn.{FnOnceReturnsAtMut};
-ghost use Rattle.std.specs.Option.{UnwrapsOrElse, option_copied, option_copied_mut, unwrap_or};
-ghost use Rattle.art_nodes.specs.declared.pointers.OpaqueNodePtr.{OpaqueNodePtr as Pointer};
-ghost use Rattle.art_tree.specs.Entries.{without_text};
-ghost use Rattle.art_tree.specs.Refusals.{texts_of};
-ghost use Rattle.art_map.specs.Changes.{IsEntryRefused};
-ghost use Rattle.art_map.specs.Entries.{entries_with_value, entry_with};
-ghost use Rattle.art_map.specs.EntryCalls.{LendsEntered, LendsOccupied, entry_key, entry_map, entry_value, is_occupied, value_with};
-ghost use Rattle.art_map.specs.Shrinking.{NeedsNode};
+ghost use Rattle.std.specs.BTreeMap.{insert_entry, is_at};
+ghost use Rattle.std.specs.Fn.{FnOnceReturnsAt, FnOnceReturnsAtMut};
+ghost use Rattle.std.specs.Map.{remove_entry, set_value};
+ghost use Rattle.std.specs.Option.{UnwrapsOrElse, option_copied, option_copied_mut, option_map, unwrap_or};
+ghost use Rattle.art_pages.specs.Entries.{get_by, get_key_by};
+ghost use Rattle.art_map.specs.EntryCalls.{entry_key, entry_map, entry_value, is_occupied};
+ghost use Rattle.art_map.specs.Lending.{LendsEntered, LendsFound};
+ghost use Rattle.art_map.specs.declared.fault.InsertRefusal.TheVariants.{KeyTooLong};
 
-use crate::map::ArtMap;
-use art_bytes::AsBytes;
-use art_tree::InsertFault;
-use std::alloc::AllocError;
+use crate::fault::InsertFault;
+use crate::map::Map;
+use art_keys::RadixKey;
 use std::mem;
 
 /// An entry that is there, in a map `M`. Callers name it [`OccupiedEntry`].
@@ -40,59 +38,29 @@ pub enum EntryOver<'a, M, K> {
     Vacant(VacantOver<'a, M, K>),
 }
 
-/// The entry of a key in a map, as [`entry`](ArtMap::entry) returns it.
-///
-/// A map with `tin`:
-///
-/// (from tests/art_map_tests/map/entry_calls.rt.txt)
-/// ```rust
-/// match prices.entry(StrKey::new("tin")) {
-///     Entry::Occupied(entry) => {
-///         assert!(rt; entry.key().get() == "tin" && entry.get() == Some(&50));
-///         assert!(rt; entry.remove()? == Some(50));
-///     }
-///     Entry::Vacant(_) => panic!(rt; "no entry"),
-/// }
-/// ```
-pub type Entry<'a, K, V, const PREFIX_LEN: usize> = EntryOver<'a, ArtMap<K, V, PREFIX_LEN>, K>;
+/// The entry of a key in a map, as [`entry`](Map::entry) returns it.
+pub type Entry<'a, K, V> = EntryOver<'a, Map<K, V>, K>;
 
 /// An entry that is there: its value, to be read, changed or removed.
 ///
-/// Each call goes down to the entry again. That it is there is known to a caller by the clause `occupied`
-/// of [`entry`](ArtMap::entry), and not to the type, so what is looked up is in an `Option`.
-pub type OccupiedEntry<'a, K, V, const PREFIX_LEN: usize> = OccupiedOver<
-    'a,
-    ArtMap<K, V, PREFIX_LEN>,
-    K,
->;
+/// Each call searches the entry again. That it is there is known to a caller by the clause `occupied`
+/// of [`entry`](Map::entry), and not to the type, so what is looked up is in an `Option`.
+pub type OccupiedEntry<'a, K, V> = OccupiedOver<'a, Map<K, V>, K>;
 
 /// A key without an entry, which may be added.
-pub type VacantEntry<'a, K, V, const PREFIX_LEN: usize> = VacantOver<
-    'a,
-    ArtMap<K, V, PREFIX_LEN>,
-    K,
->;
+pub type VacantEntry<'a, K, V> = VacantOver<'a, Map<K, V>, K>;
 
-impl<K: AsBytes, V, const PREFIX_LEN: usize> ArtMap<K, V, PREFIX_LEN> {
+impl<K: RadixKey, V> Map<K, V> {
     /// The entry of a key, whether it is there or not: to be read, changed, added or removed. If it is
-    /// dropped, the map is as it was. Costs as much as [`get`](Self::get), and each call of the entry as
-    /// much as the call of the map that does the same; so
-    /// [`get_or_insert_with`](Self::get_or_insert_with) spares a descent. Takes no memory.
-    ///
-    /// A map with `iron` and `tin`:
-    ///
-    /// (from tests/art_map_tests/map/entry_calls.rt.txt)
-    /// ```rust
-    /// *prices.entry(StrKey::new("zinc")).or_insert(29)? += 1;
-    /// *prices.entry(StrKey::new("tin")).or_insert(9)? += 1;
-    /// assert!(rt; prices.get(b"zinc") == Some(&30) && prices.get(b"tin") == Some(&51));
-    /// ```
-    pub fn entry(&mut self, key: K) -> Entry<'_, K, V, PREFIX_LEN>
+    /// dropped, the map is as it was. Takes no memory. Costs as much as [`get`](Self::get), and each
+    /// call of the entry as much as the call of the map that does the same; so
+    /// [`get_or_insert_with`](Self::get_or_insert_with) spares a search.
+    pub fn entry(&mut self, key: K) -> Entry<'_, K, V>
         ensures same_map { (entry_map result).ghost_name ≡ self.entry.ghost_name }
         ensures same_entries { (entry_map result).now ≡ self.old }
         ensures key { entry_key result ≡ key }
-        ensures occupied { is_occupied result ≡ is_some (entry_with K.text self.old (K.text key)) }
-        ensures value { entry_value K.text result ≡ value_with K.text self.old key }
+        ensures occupied { is_occupied result ≡ is_some (get_by (K.cmp key) self.old) }
+        ensures value { entry_value K.cmp result ≡ get_by (K.cmp key) self.old }
     {
         if self.contains_key(&key) {
             return Entry::Occupied(OccupiedOver { map: self, key });
@@ -101,7 +69,7 @@ impl<K: AsBytes, V, const PREFIX_LEN: usize> ArtMap<K, V, PREFIX_LEN> {
     }
 }
 
-impl<'a, K: AsBytes + Drop, V: Drop, const PREFIX_LEN: usize> Entry<'a, K, V, PREFIX_LEN> {
+impl<'a, K: RadixKey + Drop, V: Drop> Entry<'a, K, V> {
     /// The key that was looked for.
     pub fn key(&self) -> &K
         ensures { result.now ≡ entry_key self.now }
@@ -115,38 +83,46 @@ impl<'a, K: AsBytes + Drop, V: Drop, const PREFIX_LEN: usize> Entry<'a, K, V, PR
     /// A mutable reference to the value of the entry. Where there is none, it is added with this value
     /// first. The map ends with the value that the caller leaves there.
     ///
-    /// Only a key without an entry is refused, as [`insert`](ArtMap::insert) refuses it, with key and
-    /// value; the entries are then unchanged. Costs as much as
-    /// [`get_or_insert_with`](ArtMap::get_or_insert_with).
+    /// Only a key without an entry is refused, as [`insert`](Map::insert) refuses it, with key and
+    /// value; the map is then as it was. Costs as much as `insert`.
     pub fn or_insert(self, value: V) -> Result<&'a mut V, InsertFault<K, V>>
-        ensures* writes_back { sem 𝓛 (LendsEntered K.row V.row PREFIX_LEN.row K.text K.is_key
-            (entry_map self.entry) (entry_key self.entry) result) }
+        ensures* writes_back { sem 𝓛 (LendsEntered K.row V.row K.KeyBytes (entry_map self.entry)
+            K.cmp (entry_key self.entry) result) }
         ensures value { IfOk result (λ lent. lent.now
-            ≡ unwrap_or (value_with K.text (entry_map self.entry).now (entry_key self.entry)) value) }
-        ensures refusal_due { IfErr result (λ fault. IsEntryRefused K.text (entry_map self.entry).now
-            (K.text (entry_key self.entry)) fault.refusal) }
-        ensures no_entry { OnErr result (entry_with K.text (entry_map self.entry).now
-            (K.text (entry_key self.entry)) ≡ None) }
-        ensures entry_back { IfErr result
+            ≡ unwrap_or (get_by (K.cmp (entry_key self.entry)) (entry_map self.entry).now) value) }
+        ensures too_long { IfErr result (λ fault.
+            (fault.refusal ≡ KeyTooLong) ↔ (2 ^ 32 ≤ length (K.encoded (entry_key self.entry)))) }
+        ensures returned { IfErr result
             (λ fault. (fault.key ≡ entry_key self.entry) × (fault.value ≡ value)) }
+        ensures absent { OnErr result
+            (get_by (K.cmp (entry_key self.entry)) (entry_map self.entry).now ≡ None) }
     {
-        self.or_insert_with(move || value)
+        match self {
+            Entry::Occupied(entry) => {
+                let OccupiedOver { map, key } = entry;
+                map.get_or_insert_with(key, move || value)
+            }
+            Entry::Vacant(entry) => {
+                let VacantOver { map, key } = entry;
+                map.get_or_insert_with(key, move || value)
+            }
+        }
     }
 
     /// As [`or_insert`](Self::or_insert), with the value that the closure makes. Where the entry is
     /// there, the closure is not called: a test sees that, and no clause says it.
     pub fn or_insert_with<F: FnOnce() -> V>(self, make: F) -> Result<&'a mut V, InsertFault<K, V>>
         requires { F.pre make }
-        ensures* writes_back { sem 𝓛 (LendsEntered K.row V.row PREFIX_LEN.row K.text K.is_key
-            (entry_map self.entry) (entry_key self.entry) result) }
+        ensures* writes_back { sem 𝓛 (LendsEntered K.row V.row K.KeyBytes (entry_map self.entry)
+            K.cmp (entry_key self.entry) result) }
         ensures value { IfOk result (λ lent. UnwrapsOrElse
-            (value_with K.text (entry_map self.entry).now (entry_key self.entry)) (F.post make) lent.now) }
-        ensures refusal_due { IfErr result (λ fault. IsEntryRefused K.text (entry_map self.entry).now
-            (K.text (entry_key self.entry)) fault.refusal) }
-        ensures no_entry { OnErr result (entry_with K.text (entry_map self.entry).now
-            (K.text (entry_key self.entry)) ≡ None) }
-        ensures entry_back { IfErr result
+            (get_by (K.cmp (entry_key self.entry)) (entry_map self.entry).now) (F.post make) lent.now) }
+        ensures too_long { IfErr result (λ fault.
+            (fault.refusal ≡ KeyTooLong) ↔ (2 ^ 32 ≤ length (K.encoded (entry_key self.entry)))) }
+        ensures returned { IfErr result
             (λ fault. (fault.key ≡ entry_key self.entry) × F.post make fault.value) }
+        ensures absent { OnErr result
+            (get_by (K.cmp (entry_key self.entry)) (entry_map self.entry).now ≡ None) }
     {
         match self {
             Entry::Occupied(entry) => {
@@ -160,28 +136,46 @@ impl<'a, K: AsBytes + Drop, V: Drop, const PREFIX_LEN: usize> Entry<'a, K, V, PR
         }
     }
 
+    /// As [`or_insert`](Self::or_insert), with the value that `Default` makes.
+    pub fn or_default(self) -> Result<&'a mut V, InsertFault<K, V>>
+    where
+        V: Default,
+        ensures* writes_back { sem 𝓛 (LendsEntered K.row V.row K.KeyBytes (entry_map self.entry)
+            K.cmp (entry_key self.entry) result) }
+        ensures value { IfOk result (λ lent. UnwrapsOrElse
+            (get_by (K.cmp (entry_key self.entry)) (entry_map self.entry).now) V.is_default lent.now) }
+        ensures too_long { IfErr result (λ fault.
+            (fault.refusal ≡ KeyTooLong) ↔ (2 ^ 32 ≤ length (K.encoded (entry_key self.entry)))) }
+        ensures returned { IfErr result
+            (λ fault. (fault.key ≡ entry_key self.entry) × V.is_default fault.value) }
+        ensures absent { OnErr result
+            (get_by (K.cmp (entry_key self.entry)) (entry_map self.entry).now ≡ None) }
+    {
+        match self {
+            Entry::Occupied(entry) => {
+                let OccupiedOver { map, key } = entry;
+                map.get_or_insert_with(key, || V::default())
+            }
+            Entry::Vacant(entry) => {
+                let VacantOver { map, key } = entry;
+                map.get_or_insert_with(key, || V::default())
+            }
+        }
+    }
+
     /// Calls the closure at the value, which it may change, where the entry is there, and returns the
     /// entry. Other entries are as they were, and all are where there is none. Costs as much as
-    /// [`get`](ArtMap::get). Takes no memory.
-    ///
-    /// A map with `tin`:
-    ///
-    /// (from tests/art_map_tests/map/entry_calls.rt.txt)
-    /// ```rust
-    /// prices
-    ///     .entry(StrKey::new("tin"))
-    ///     .and_modify(|price| *price += 1)
-    ///     .or_insert_with(|| 9)?;
-    /// ```
+    /// [`get`](Map::get). Takes no memory.
     pub fn and_modify<F: FnOnce(&mut V)>(self, change: F) -> Self
-        requires { (lent : MutBor V) → value_with K.text (entry_map self).now (entry_key self) ≡ Some lent.now → F.pre change lent }
+        requires { (lent : MutBor V) → get_by (K.cmp (entry_key self)) (entry_map self).now ≡ Some lent.now
+            → F.pre change lent }
         ensures same_map { (entry_map result).ghost_name ≡ (entry_map self.entry).ghost_name }
         ensures same_key { entry_key result ≡ entry_key self.entry }
         ensures same_kind { is_occupied result ≡ is_occupied self.entry }
-        ensures changed { IfSome (entry_value K.text self.entry) (λ value. (now : V)
+        ensures changed { IfSome (entry_value K.cmp self.entry) (λ value. (now : V)
             × FnOnceReturnsAtMut F.FnOnce change value tt now × ((entry_map result).now
-            ≡ entries_with_value K.text (entry_map self.entry).now (K.text (entry_key self.entry)) now)) }
-        ensures same_entries { IfNone (entry_value K.text self.entry)
+            ≡ set_value (is_at (K.cmp (entry_key self.entry))) (entry_map self.entry).now now)) }
+        ensures same_entries { IfNone (entry_value K.cmp self.entry)
             ((entry_map result).now ≡ (entry_map self.entry).now) }
     {
         match self {
@@ -197,98 +191,79 @@ impl<'a, K: AsBytes + Drop, V: Drop, const PREFIX_LEN: usize> Entry<'a, K, V, PR
     }
 }
 
-impl<'a, K: AsBytes + Drop, V: Drop, const PREFIX_LEN: usize> OccupiedEntry<'a, K, V, PREFIX_LEN> {
-    /// The key that was looked for. That of the map has the same bytes.
+impl<'a, K: RadixKey + Drop, V: Drop> OccupiedEntry<'a, K, V> {
+    /// The key that was looked for. That of the map is equal to it.
     pub fn key(&self) -> &K
         ensures { result.now ≡ self.now.key }
     {
         &self.key
     }
 
-    /// The value. Costs as much as [`get`](ArtMap::get). Takes no memory.
+    /// The value. Costs as much as [`get`](Map::get). Takes no memory.
     pub fn get(&self) -> Option<&V>
-        ensures { option_copied result ≡ value_with K.text self.now.map.now self.now.key }
+        ensures { option_copied result ≡ get_by (K.cmp self.now.key) self.now.map.now }
     {
         self.map.get(&self.key)
     }
 
     /// A mutable reference to the value, which the caller may change. Costs as much as
-    /// [`get`](ArtMap::get). Takes no memory.
+    /// [`get`](Map::get). Takes no memory.
     ///
     /// No clause says what the map is afterwards: where a proof needs it, take [`insert`](Self::insert),
     /// [`into_mut`](Self::into_mut) or [`and_modify`](EntryOver::and_modify).
-    ///
-    /// A map with `tin`:
-    ///
-    /// (from tests/art_map_tests/map/entry_calls.rt.txt)
-    /// ```rust
-    /// if let Some(price) = entry.get_mut() {
-    ///     *price += 1;
-    /// }
-    /// assert!(rt; entry.insert(60) == Some(51));
-    /// ```
     pub fn get_mut(&mut self) -> Option<&mut V>
-        ensures { option_copied_mut result ≡ value_with K.text self.old.map.now self.old.key }
+        ensures { option_copied_mut result ≡ get_by (K.cmp self.old.key) self.old.map.now }
     {
         let OccupiedOver { map, key } = self;
-        map.get_mut(key)
+        map.get_mut(&*key)
     }
 
-    /// Replaces the value, and returns the one that was there. Costs as much as [`get`](ArtMap::get).
-    /// Takes no memory. See [`get_mut`](Self::get_mut) for an example.
+    /// Replaces the value, and returns the one that was there. Costs as much as [`get`](Map::get).
+    /// Takes no memory.
     pub fn insert(&mut self, value: V) -> Option<V>
         ensures same_map { self.new.map.ghost_name ≡ self.old.map.ghost_name }
         ensures same_key { self.new.key ≡ self.old.key }
-        ensures replaced { result ≡ value_with K.text self.old.map.now self.old.key }
-        ensures entries { self.new.map.now
-            ≡ entries_with_value K.text self.old.map.now (K.text self.old.key) value }
+        ensures replaced { result ≡ get_by (K.cmp self.old.key) self.old.map.now }
+        ensures entries { self.new.map.now ≡ set_value (is_at (K.cmp self.old.key)) self.old.map.now value }
     {
         let held = self.map.get_mut(&self.key)?;
         Some(mem::replace(held, value))
     }
 
     /// A mutable reference to the value, for as long as the map is borrowed. The map ends with the value
-    /// that the caller leaves there. Costs as much as [`get`](ArtMap::get). Takes no memory.
+    /// that the caller leaves there. Costs as much as [`get`](Map::get). Takes no memory.
     pub fn into_mut(self) -> Option<&'a mut V>
-        ensures* writes_back { sem 𝓛 (LendsOccupied K.row V.row PREFIX_LEN.row K.text K.is_key
-            self.entry.map self.entry.key result) }
-        ensures value { option_copied_mut result
-            ≡ value_with K.text self.entry.map.now self.entry.key }
+        ensures* writes_back { sem 𝓛 (LendsFound K.row V.row K.KeyBytes self.entry.map
+            (K.cmp self.entry.key) result) }
+        ensures value { option_copied_mut result ≡ get_by (K.cmp self.entry.key) self.entry.map.now }
     {
         let OccupiedOver { map, key } = self;
         map.get_mut(&key)
     }
 
-    /// Removes the entry, and returns the key and the value that it had. Fails and costs as
-    /// [`remove_entry`](ArtMap::remove_entry) of the map.
-    pub fn remove_entry(self) -> Result<Option<(K, V)>, AllocError>
-        ensures removed { IfOk result (λ entry. entry ≡ entry_with K.text self.entry.map.now (K.text self.entry.key)) }
-        ensures entries { OnOk result (self.exit.0.now ≡ without_text K.text self.entry.map.now (K.text self.entry.key)) }
-        ensures refused { OnErr result (entry_with K.text self.entry.map.now (K.text self.entry.key) ≢ None) }
-        ensures needs_node { OnErr result (NeedsNode (Pointer K V PREFIX_LEN)
-            (texts_of K.text self.entry.map.now) (K.text self.entry.key)) }
-        ensures same_entries { OnErr result (self.exit.0.now ≡ self.entry.map.now) }
+    /// Removes the entry, and returns the key and the value that it had. It is never
+    /// refused. Costs as much as [`remove`](Map::remove).
+    pub fn remove_entry(self) -> Option<(K, V)>
+        ensures key { option_map (λ entry. entry.0) result ≡ get_key_by (K.cmp self.entry.key) self.entry.map.now }
+        ensures value { option_map (λ entry. entry.1) result ≡ get_by (K.cmp self.entry.key) self.entry.map.now }
+        ensures entries { self.exit.0.now ≡ remove_entry (is_at (K.cmp self.entry.key)) self.entry.map.now }
     {
         let OccupiedOver { map, key } = self;
         map.remove_entry(&key)
     }
 
-    /// Removes the entry, and returns its value. Fails and costs as [`remove`](ArtMap::remove) of the
-    /// map.
-    pub fn remove(self) -> Result<Option<V>, AllocError>
-        ensures removed { IfOk result (λ value. value ≡ value_with K.text self.entry.map.now self.entry.key) }
-        ensures entries { OnOk result (self.exit.0.now ≡ without_text K.text self.entry.map.now (K.text self.entry.key)) }
-        ensures refused { OnErr result (entry_with K.text self.entry.map.now (K.text self.entry.key) ≢ None) }
-        ensures needs_node { OnErr result (NeedsNode (Pointer K V PREFIX_LEN)
-            (texts_of K.text self.entry.map.now) (K.text self.entry.key)) }
-        ensures same_entries { OnErr result (self.exit.0.now ≡ self.entry.map.now) }
+    /// Removes the entry, and returns its value. It is never refused. Costs as much as
+    /// [`remove`](Map::remove).
+    pub fn remove(self) -> Option<V>
+        ensures value { result ≡ get_by (K.cmp self.entry.key) self.entry.map.now }
+        ensures entries { self.exit.0.now ≡ remove_entry (is_at (K.cmp self.entry.key)) self.entry.map.now }
     {
         let OccupiedOver { map, key } = self;
         map.remove(&key)
     }
 }
 
-impl<'a, K: AsBytes + Drop, V: Drop, const PREFIX_LEN: usize> VacantEntry<'a, K, V, PREFIX_LEN> {
+impl<'a, K: RadixKey + Drop, V: Drop> VacantEntry<'a, K, V> {
     /// The key that was looked for.
     pub fn key(&self) -> &K
         ensures { result.now ≡ self.now.key }
@@ -305,18 +280,16 @@ impl<'a, K: AsBytes + Drop, V: Drop, const PREFIX_LEN: usize> VacantEntry<'a, K,
     }
 
     /// Adds the entry with this value, and returns a mutable reference to it. Refused and costs as
-    /// [`insert`](ArtMap::insert) of the map, with key and value; the entries are then unchanged.
+    /// [`insert`](Map::insert) of the map, with key and value; the map is then as it was.
     pub fn insert(self, value: V) -> Result<&'a mut V, InsertFault<K, V>>
-        ensures* writes_back { sem 𝓛 (LendsEntered K.row V.row PREFIX_LEN.row K.text K.is_key
-            self.entry.map self.entry.key result) }
-        ensures value { IfOk result (λ lent. lent.now
-            ≡ unwrap_or (value_with K.text self.entry.map.now self.entry.key) value) }
-        ensures refusal_due { IfErr result (λ fault. IsEntryRefused K.text self.entry.map.now
-            (K.text self.entry.key) fault.refusal) }
-        ensures no_entry { OnErr result (entry_with K.text self.entry.map.now
-            (K.text self.entry.key) ≡ None) }
-        ensures entry_back { IfErr result
-            (λ fault. (fault.key ≡ self.entry.key) × (fault.value ≡ value)) }
+        ensures* writes_back { sem 𝓛 (LendsEntered K.row V.row K.KeyBytes self.entry.map
+            K.cmp self.entry.key result) }
+        ensures value { IfOk result
+            (λ lent. lent.now ≡ unwrap_or (get_by (K.cmp self.entry.key) self.entry.map.now) value) }
+        ensures too_long { IfErr result
+            (λ fault. (fault.refusal ≡ KeyTooLong) ↔ (2 ^ 32 ≤ length (K.encoded self.entry.key))) }
+        ensures returned { IfErr result (λ fault. (fault.key ≡ self.entry.key) × (fault.value ≡ value)) }
+        ensures absent { OnErr result (get_by (K.cmp self.entry.key) self.entry.map.now ≡ None) }
     {
         let VacantOver { map, key } = self;
         map.get_or_insert_with(key, move || value)

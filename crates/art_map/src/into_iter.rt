@@ -1,70 +1,38 @@
-//! The entries of a map that is taken apart, one by one.
-ghost use Rattle.std.specs.Prelude.{◌≡◌, ◌+◌, length, Some, map};
+//! The entries of a map that is taken apart, one by one. A page is taken out of it at a time.
+ghost use Rattle.std.specs.Prelude.{◌≡◌, ◌+◌, ◌^◌, ◌<◌, ◌++◌, length, map};
 ghost use Rattle.std.specs.Iterator.{YieldsFirst, YieldsLast, item_count};
-ghost use Rattle.art_arena.specs.Arena.{leaf_count};
-ghost use Rattle.art_map.specs.Runs.{run_entries, IsRun, IsTaken};
 
-use crate::guide::Guide;
-use crate::iter::HasRuns;
-use crate::run_ends::{Ends, ends_without, leaf_at_end, with_expected};
-use art_arena::{End, LeafPtr, NodeArena};
-use art_bytes::AsBytes;
-use art_nodes::OpaqueNodePtr;
+use crate::map::{HoldsPages, Map, MapOver, Tree};
+use art_keys::{KeyBytes, RadixKey};
 use std::iter::FusedIterator;
-use std::marker::{Model, PhantomData};
+use std::marker::Model;
+use std::vec;
 
-/// The entries of a run of linked leaves that are left, in order, with the arena that holds them and no
-/// other leaves.
-/// Callers name it [`IntoIter`].
+/// The entries of a map that are left, with the pages that hold them. Callers name it [`IntoIter`].
 #[derive(Drop)]
-pub struct OwnedRun<A: HasRuns<L, K, V>, L, K, V> {
-    arena: A,
-    // The first leaf that is left and the last one, if any is.
-    ends: Option<(L, L)>,
-    // A guess at the leaves that come next.
-    guide: Guide,
-    entry: PhantomData<(K, V)>,
+pub struct TakenEntries<T: HoldsPages<K, V>, K: KeyBytes, V> {
+    // What is left of the page that was taken out last.
+    first: vec::IntoIter<(K, V)>,
+    rest: MapOver<T, K, V>,
 }
 
-impl<A: HasRuns<L, K, V>, L, K, V> Model for OwnedRun<A, L, K, V> {
-    ghost use Rattle.std.specs.Prelude.{◌≡◌, List, length};
+impl<T: HoldsPages<K, V>, K: KeyBytes, V> Model for TakenEntries<T, K, V> {
+    ghost use Rattle.std.specs.Prelude.{◌^◌, ◌<◌, ◌++◌, List, length};
+    ghost use Rattle.std.specs.Vec.Iter.{into_iter_items};
 
     ghost Value = { List (K × V) };
 
-    ghost view = { λ r. A.run r.arena r.ends };
+    ghost view = { λ it. into_iter_items it.first ++ it.rest };
 
-    ghost invariant = { λ r. A.is_run r.arena r.ends
-        × (length (A.run r.arena r.ends) ≡ A.leaf_count r.arena) };
+    ghost invariant = { λ it. length (into_iter_items it.first ++ it.rest) < 2 ^ 64 };
 }
 
-/// The entries of a map that was taken apart, in ascending order of the bytes of their keys, and from
-/// the back in descending order. Contracts see the list of those that are left. Each takes constant
-/// time, and no memory. What is left is freed when the iterator is dropped.
-pub type IntoIter<K, V, const PREFIX_LEN: usize> = OwnedRun<
-    NodeArena<K, V, PREFIX_LEN>,
-    LeafPtr<K, V, PREFIX_LEN>,
-    K,
-    V,
->;
+/// The entries of a map that was taken apart, in ascending order of their keys, and from the back in
+/// descending order. Contracts see the list of those that are left. What is left is freed when the
+/// iterator is dropped.
+pub type IntoIter<K, V> = TakenEntries<Tree<K, V>, K, V>;
 
-// Takes the entry at this end of a run out of the arena, and returns the ends of what is left.
-#[inline(always)]
-fn take_out<K, V, const PREFIX_LEN: usize>(
-    arena: &mut NodeArena<K, V, PREFIX_LEN>,
-    ends: Ends<K, V, PREFIX_LEN>,
-    end: End,
-) -> ((K, V), Option<Ends<K, V, PREFIX_LEN>>)
-    requires { IsRun arena.old (Some ends) }
-    ensures taken { IsTaken end (run_entries arena.old (Some ends)) result.0 (run_entries arena.new result.1) }
-    ensures rest { IsRun arena.new result.1 }
-    ensures fewer { leaf_count arena.old ≡ leaf_count arena.new + 1 }
-{
-    let leaf = arena.deallocate_node_ptr(leaf_at_end(ends, end));
-    let rest = ends_without(&leaf, ends, end);
-    (leaf.into_entry(), rest)
-}
-
-impl<K: AsBytes + Drop, V: Drop, const PREFIX_LEN: usize> Iterator for IntoIter<K, V, PREFIX_LEN> {
+impl<K: RadixKey + Drop, V: Drop> Iterator for IntoIter<K, V> {
     type Item = (K, V);
 
     ghost next_gives = { YieldsFirst (λ rest. rest) };
@@ -72,12 +40,11 @@ impl<K: AsBytes + Drop, V: Drop, const PREFIX_LEN: usize> Iterator for IntoIter<
     ghost remaining = { item_count (λ rest. rest) };
 
     fn next(&mut self) -> Option<(K, V)> {
-        let ends = self.ends?;
-        let expected = self.guide.next(&self.arena, ends.0, End::First);
-        let (entry, rest) = take_out(&mut self.arena, ends, End::First);
-        let rest = with_expected(&mut self.guide, rest, expected, End::First);
-        self.ends = rest;
-        Some(entry)
+        if let Some(entry) = self.first.next() {
+            return Some(entry);
+        }
+        self.first = self.rest.take_first_page().into_iter();
+        self.first.next()
     }
 
     fn size_hint(&self) -> (usize, Option<usize>) {
@@ -86,38 +53,32 @@ impl<K: AsBytes + Drop, V: Drop, const PREFIX_LEN: usize> Iterator for IntoIter<
     }
 }
 
-impl<K: AsBytes + Drop, V: Drop, const PREFIX_LEN: usize> DoubleEndedIterator
-    for IntoIter<K, V, PREFIX_LEN> {
+impl<K: RadixKey + Drop, V: Drop> DoubleEndedIterator for IntoIter<K, V> {
     ghost next_back_gives = { YieldsLast (λ rest. rest) };
 
     fn next_back(&mut self) -> Option<(K, V)> {
-        let ends = self.ends?;
-        let expected = self.guide.next(&self.arena, ends.1, End::Last);
-        let (entry, rest) = take_out(&mut self.arena, ends, End::Last);
-        let rest = with_expected(&mut self.guide, rest, expected, End::Last);
-        self.ends = rest;
-        Some(entry)
+        match self.rest.pop_last() {
+            Some(entry) => Some(entry),
+            None => self.first.next_back(),
+        }
     }
 }
 
-impl<K: AsBytes + Drop, V: Drop, const PREFIX_LEN: usize> FusedIterator
-    for IntoIter<K, V, PREFIX_LEN> {}
+impl<K: RadixKey + Drop, V: Drop> FusedIterator for IntoIter<K, V> {}
 
-/// The leaves that are still in the arena are counted there, so no step counts.
-impl<K: AsBytes + Drop, V: Drop, const PREFIX_LEN: usize> ExactSizeIterator
-    for IntoIter<K, V, PREFIX_LEN> {
+impl<K: RadixKey + Drop, V: Drop> ExactSizeIterator for IntoIter<K, V> {
     fn len(&self) -> usize {
-        self.arena.leaf_count()
+        self.first.len() + self.rest.len()
     }
 }
 
-/// The keys of the entries of a run that are left, with the arena. Callers name it [`IntoKeys`].
+/// The keys of the entries that are left. Callers name it [`IntoKeys`].
 #[derive(Drop)]
-pub struct OwnedKeys<A: HasRuns<L, K, V>, L, K, V> {
-    entries: OwnedRun<A, L, K, V>,
+pub struct TakenKeys<T: HoldsPages<K, V>, K: KeyBytes, V> {
+    entries: TakenEntries<T, K, V>,
 }
 
-impl<A: HasRuns<L, K, V>, L, K, V> Model for OwnedKeys<A, L, K, V> {
+impl<T: HoldsPages<K, V>, K: KeyBytes, V> Model for TakenKeys<T, K, V> {
     ghost use Rattle.std.specs.Prelude.{List, map};
 
     ghost Value = { List K };
@@ -125,16 +86,11 @@ impl<A: HasRuns<L, K, V>, L, K, V> Model for OwnedKeys<A, L, K, V> {
     ghost view = { λ keys. map (λ entry. entry.0) keys.entries };
 }
 
-/// The keys of a map that was taken apart, as [`IntoIter`] has its entries. Contracts see the list of
-/// those that are left.
-pub type IntoKeys<K, V, const PREFIX_LEN: usize> = OwnedKeys<
-    NodeArena<K, V, PREFIX_LEN>,
-    LeafPtr<K, V, PREFIX_LEN>,
-    K,
-    V,
->;
+/// The keys of a map that was taken apart, in ascending order, and from the back in descending order.
+/// Contracts see the list of those that are left.
+pub type IntoKeys<K, V> = TakenKeys<Tree<K, V>, K, V>;
 
-impl<K: AsBytes + Drop, V: Drop, const PREFIX_LEN: usize> Iterator for IntoKeys<K, V, PREFIX_LEN> {
+impl<K: RadixKey + Drop, V: Drop> Iterator for IntoKeys<K, V> {
     type Item = K;
 
     ghost next_gives = { YieldsFirst (λ rest. rest) };
@@ -154,8 +110,7 @@ impl<K: AsBytes + Drop, V: Drop, const PREFIX_LEN: usize> Iterator for IntoKeys<
     }
 }
 
-impl<K: AsBytes + Drop, V: Drop, const PREFIX_LEN: usize> DoubleEndedIterator
-    for IntoKeys<K, V, PREFIX_LEN> {
+impl<K: RadixKey + Drop, V: Drop> DoubleEndedIterator for IntoKeys<K, V> {
     ghost next_back_gives = { YieldsLast (λ rest. rest) };
 
     fn next_back(&mut self) -> Option<K> {
@@ -166,40 +121,92 @@ impl<K: AsBytes + Drop, V: Drop, const PREFIX_LEN: usize> DoubleEndedIterator
     }
 }
 
-impl<K: AsBytes + Drop, V: Drop, const PREFIX_LEN: usize> FusedIterator
-    for IntoKeys<K, V, PREFIX_LEN> {}
+impl<K: RadixKey + Drop, V: Drop> FusedIterator for IntoKeys<K, V> {}
 
-impl<K: AsBytes + Drop, V: Drop, const PREFIX_LEN: usize> ExactSizeIterator
-    for IntoKeys<K, V, PREFIX_LEN> {
+impl<K: RadixKey + Drop, V: Drop> ExactSizeIterator for IntoKeys<K, V> {
     fn len(&self) -> usize {
         self.entries.len()
     }
 }
 
-/// The keys of these entries.
-pub(crate) fn keys_taken<K, V, const PREFIX_LEN: usize>(
-    entries: IntoIter<K, V, PREFIX_LEN>,
-) -> IntoKeys<K, V, PREFIX_LEN>
-    ensures { result ≡ map (λ entry. entry.0) entries }
-{
-    OwnedKeys { entries }
+/// The values of the entries that are left. Callers name it [`IntoValues`].
+#[derive(Drop)]
+pub struct TakenValues<T: HoldsPages<K, V>, K: KeyBytes, V> {
+    entries: TakenEntries<T, K, V>,
 }
 
-/// The run of this arena between these ends, with the arena.
-pub(crate) fn run_taken<K, V, const PREFIX_LEN: usize>(
-    arena: NodeArena<K, V, PREFIX_LEN>,
-    root: Option<OpaqueNodePtr<K, V, PREFIX_LEN>>,
-    ends: Option<Ends<K, V, PREFIX_LEN>>,
-) -> IntoIter<K, V, PREFIX_LEN>
-    requires run { IsRun arena ends }
-    requires whole { length (run_entries arena ends) ≡ leaf_count arena }
-    ensures { result ≡ run_entries arena ends }
-{
-    let guide = Guide::new(root, arena.leaf_count());
-    OwnedRun {
-        arena,
-        ends,
-        guide,
-        entry: PhantomData,
+impl<T: HoldsPages<K, V>, K: KeyBytes, V> Model for TakenValues<T, K, V> {
+    ghost use Rattle.std.specs.Prelude.{List, map};
+
+    ghost Value = { List V };
+
+    ghost view = { λ values. map (λ entry. entry.1) values.entries };
+}
+
+/// The values of a map that was taken apart, in ascending order of their keys, and from the back in
+/// descending order. Contracts see the list of those that are left.
+pub type IntoValues<K, V> = TakenValues<Tree<K, V>, K, V>;
+
+impl<K: RadixKey + Drop, V: Drop> Iterator for IntoValues<K, V> {
+    type Item = V;
+
+    ghost next_gives = { YieldsFirst (λ rest. rest) };
+
+    ghost remaining = { item_count (λ rest. rest) };
+
+    fn next(&mut self) -> Option<V> {
+        match self.entries.next() {
+            Some((_, value)) => Some(value),
+            None => None,
+        }
     }
+
+    fn size_hint(&self) -> (usize, Option<usize>) {
+        let len = self.len();
+        (len, Some(len))
+    }
+}
+
+impl<K: RadixKey + Drop, V: Drop> DoubleEndedIterator for IntoValues<K, V> {
+    ghost next_back_gives = { YieldsLast (λ rest. rest) };
+
+    fn next_back(&mut self) -> Option<V> {
+        match self.entries.next_back() {
+            Some((_, value)) => Some(value),
+            None => None,
+        }
+    }
+}
+
+impl<K: RadixKey + Drop, V: Drop> FusedIterator for IntoValues<K, V> {}
+
+impl<K: RadixKey + Drop, V: Drop> ExactSizeIterator for IntoValues<K, V> {
+    fn len(&self) -> usize {
+        self.entries.len()
+    }
+}
+
+/// The entries of a map, of which none is taken yet.
+pub(crate) fn entries_taken<K: KeyBytes, V>(first: Vec<(K, V)>, rest: Map<K, V>) -> IntoIter<K, V>
+    requires { length (first.items ++ rest) < 2 ^ 64 }
+    ensures { result ≡ first.items ++ rest }
+{
+    TakenEntries {
+        first: first.into_iter(),
+        rest,
+    }
+}
+
+/// The keys of these entries.
+pub(crate) fn keys_taken<K: KeyBytes, V>(entries: IntoIter<K, V>) -> IntoKeys<K, V>
+    ensures { result ≡ map (λ entry. entry.0) entries }
+{
+    TakenKeys { entries }
+}
+
+/// The values of these entries.
+pub(crate) fn values_taken<K: KeyBytes, V>(entries: IntoIter<K, V>) -> IntoValues<K, V>
+    ensures { result ≡ map (λ entry. entry.1) entries }
+{
+    TakenValues { entries }
 }

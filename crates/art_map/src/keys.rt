@@ -2,20 +2,20 @@
 ghost use Rattle.std.specs.Prelude.{◌≡◌, map, ⊤};
 ghost use Rattle.std.specs.Iterator.{YieldsFirstBy, YieldsLastBy, item_count};
 
-use crate::iter::{HasRuns, Iter, Run};
-use art_arena::{LeafPtr, NodeArena};
-use art_bytes::AsBytes;
+use crate::iter::{EntriesOf, HasPages, Iter};
+use crate::map::{Leaf, Tree};
+use art_keys::{KeyBytes, RadixKey};
 use std::alloc::AllocError;
 use std::iter::FusedIterator;
 use std::marker::Model;
 
 /// The keys of the entries that are left. Callers name it [`Keys`].
 #[derive(Drop)]
-pub struct RunKeys<'a, A: HasRuns<L, K, V>, L, K, V> {
-    entries: Run<'a, A, L, K, V>,
+pub struct KeysOf<'a, T: HasPages<L, K, V>, L, K, V> {
+    entries: EntriesOf<'a, T, L, K, V>,
 }
 
-impl<'a, A: HasRuns<L, K, V>, L, K, V> Model for RunKeys<'a, A, L, K, V> {
+impl<'a, T: HasPages<L, K, V>, L, K, V> Model for KeysOf<'a, T, L, K, V> {
     ghost use Rattle.std.specs.Prelude.{List, map};
 
     ghost Value = { List K };
@@ -23,17 +23,10 @@ impl<'a, A: HasRuns<L, K, V>, L, K, V> Model for RunKeys<'a, A, L, K, V> {
     ghost view = { λ keys. map (λ entry. entry.0) keys.entries };
 }
 
-/// The keys of a map, in ascending order of their bytes. Contracts see the list of those that are
-/// left.
-pub type Keys<'a, K, V, const PREFIX_LEN: usize> = RunKeys<
-    'a,
-    NodeArena<K, V, PREFIX_LEN>,
-    LeafPtr<K, V, PREFIX_LEN>,
-    K,
-    V,
->;
+/// The keys of a map, in ascending order. Contracts see the list of those that are left.
+pub type Keys<'a, K, V> = KeysOf<'a, Tree<K, V>, Leaf<K, V>, K, V>;
 
-impl<'a, K: AsBytes, V, const PREFIX_LEN: usize> Iterator for Keys<'a, K, V, PREFIX_LEN> {
+impl<'a, K: RadixKey, V> Iterator for Keys<'a, K, V> {
     type Item = &'a K;
 
     ghost next_gives = { YieldsFirstBy (λ item. item.now) (λ rest. rest) };
@@ -53,8 +46,7 @@ impl<'a, K: AsBytes, V, const PREFIX_LEN: usize> Iterator for Keys<'a, K, V, PRE
     }
 }
 
-impl<'a, K: AsBytes, V, const PREFIX_LEN: usize> DoubleEndedIterator
-    for Keys<'a, K, V, PREFIX_LEN> {
+impl<'a, K: RadixKey, V> DoubleEndedIterator for Keys<'a, K, V> {
     ghost next_back_gives = { YieldsLastBy (λ item. item.now) (λ rest. rest) };
 
     fn next_back(&mut self) -> Option<&'a K> {
@@ -65,27 +57,27 @@ impl<'a, K: AsBytes, V, const PREFIX_LEN: usize> DoubleEndedIterator
     }
 }
 
-impl<'a, K: AsBytes, V, const PREFIX_LEN: usize> FusedIterator for Keys<'a, K, V, PREFIX_LEN> {}
+impl<'a, K: RadixKey, V> FusedIterator for Keys<'a, K, V> {}
 
 /// Another iterator over the keys that are left. Takes no memory and never fails.
-impl<'a, K, V, const PREFIX_LEN: usize> Clone for Keys<'a, K, V, PREFIX_LEN> {
+impl<'a, K: KeyBytes, V> Clone for Keys<'a, K, V> {
     ghost is_clone = { λ keys copy. copy ≡ keys };
 
     ghost is_infallible = { λ _. ⊤ };
 
-    fn clone(&self) -> Result<Keys<'a, K, V, PREFIX_LEN>, AllocError> {
+    fn clone(&self) -> Result<Keys<'a, K, V>, AllocError> {
         let entries = self.entries.clone()?;
-        Ok(RunKeys { entries })
+        Ok(KeysOf { entries })
     }
 }
 
 /// The values of the entries that are left. Callers name it [`Values`].
 #[derive(Drop)]
-pub struct RunValues<'a, A: HasRuns<L, K, V>, L, K, V> {
-    entries: Run<'a, A, L, K, V>,
+pub struct ValuesOf<'a, T: HasPages<L, K, V>, L, K, V> {
+    entries: EntriesOf<'a, T, L, K, V>,
 }
 
-impl<'a, A: HasRuns<L, K, V>, L, K, V> Model for RunValues<'a, A, L, K, V> {
+impl<'a, T: HasPages<L, K, V>, L, K, V> Model for ValuesOf<'a, T, L, K, V> {
     ghost use Rattle.std.specs.Prelude.{List, map};
 
     ghost Value = { List V };
@@ -93,17 +85,11 @@ impl<'a, A: HasRuns<L, K, V>, L, K, V> Model for RunValues<'a, A, L, K, V> {
     ghost view = { λ values. map (λ entry. entry.1) values.entries };
 }
 
-/// The values of a map, in ascending order of the bytes of their keys. Contracts see the list of
+/// The values of a map, in ascending order of their keys. Contracts see the list of
 /// those that are left.
-pub type Values<'a, K, V, const PREFIX_LEN: usize> = RunValues<
-    'a,
-    NodeArena<K, V, PREFIX_LEN>,
-    LeafPtr<K, V, PREFIX_LEN>,
-    K,
-    V,
->;
+pub type Values<'a, K, V> = ValuesOf<'a, Tree<K, V>, Leaf<K, V>, K, V>;
 
-impl<'a, K: AsBytes, V, const PREFIX_LEN: usize> Iterator for Values<'a, K, V, PREFIX_LEN> {
+impl<'a, K: RadixKey, V> Iterator for Values<'a, K, V> {
     type Item = &'a V;
 
     ghost next_gives = { YieldsFirstBy (λ item. item.now) (λ rest. rest) };
@@ -123,8 +109,7 @@ impl<'a, K: AsBytes, V, const PREFIX_LEN: usize> Iterator for Values<'a, K, V, P
     }
 }
 
-impl<'a, K: AsBytes, V, const PREFIX_LEN: usize> DoubleEndedIterator
-    for Values<'a, K, V, PREFIX_LEN> {
+impl<'a, K: RadixKey, V> DoubleEndedIterator for Values<'a, K, V> {
     ghost next_back_gives = { YieldsLastBy (λ item. item.now) (λ rest. rest) };
 
     fn next_back(&mut self) -> Option<&'a V> {
@@ -135,34 +120,30 @@ impl<'a, K: AsBytes, V, const PREFIX_LEN: usize> DoubleEndedIterator
     }
 }
 
-impl<'a, K: AsBytes, V, const PREFIX_LEN: usize> FusedIterator for Values<'a, K, V, PREFIX_LEN> {}
+impl<'a, K: RadixKey, V> FusedIterator for Values<'a, K, V> {}
 
 /// Another iterator over the values that are left. Takes no memory and never fails.
-impl<'a, K, V, const PREFIX_LEN: usize> Clone for Values<'a, K, V, PREFIX_LEN> {
+impl<'a, K: KeyBytes, V> Clone for Values<'a, K, V> {
     ghost is_clone = { λ values copy. copy ≡ values };
 
     ghost is_infallible = { λ _. ⊤ };
 
-    fn clone(&self) -> Result<Values<'a, K, V, PREFIX_LEN>, AllocError> {
+    fn clone(&self) -> Result<Values<'a, K, V>, AllocError> {
         let entries = self.entries.clone()?;
-        Ok(RunValues { entries })
+        Ok(ValuesOf { entries })
     }
 }
 
 /// The keys of these entries.
-pub(crate) fn keys_of<'a, K, V, const PREFIX_LEN: usize>(
-    entries: Iter<'a, K, V, PREFIX_LEN>,
-) -> Keys<'a, K, V, PREFIX_LEN>
+pub(crate) fn keys_of<'a, K: KeyBytes, V>(entries: Iter<'a, K, V>) -> Keys<'a, K, V>
     ensures { result ≡ map (λ entry. entry.0) entries.entry }
 {
-    RunKeys { entries }
+    KeysOf { entries }
 }
 
 /// The values of these entries.
-pub(crate) fn values_of<'a, K, V, const PREFIX_LEN: usize>(
-    entries: Iter<'a, K, V, PREFIX_LEN>,
-) -> Values<'a, K, V, PREFIX_LEN>
+pub(crate) fn values_of<'a, K: KeyBytes, V>(entries: Iter<'a, K, V>) -> Values<'a, K, V>
     ensures { result ≡ map (λ entry. entry.1) entries.entry }
 {
-    RunValues { entries }
+    ValuesOf { entries }
 }

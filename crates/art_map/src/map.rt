@@ -1,88 +1,105 @@
 //! The map.
-ghost use Rattle.std.specs.Prelude.{◌≡◌, []};
-ghost use Rattle.art_map.specs.Memory.{WithoutRoom};
+ghost use Rattle.std.specs.Prelude.{◌≡◌, ◌↔◌, [], length, IsTrue};
+ghost use Rattle.art_pages.specs.Entries.{IsOrdered};
 
 mod changes;
 mod comparing;
-mod ends;
-pub(crate) mod laws;
+mod cursors;
+mod iterating;
+mod lending;
 mod many_entries;
-pub(crate) mod ranges;
+mod moving;
+mod ranges;
 mod reading;
+mod removals;
+mod retaining;
 
-use crate::view::{EntryList, MapView, ViewOf};
-use art_bytes::AsBytes;
+use art_arena::LeafPtr;
+use art_index::Anchor;
+use art_keys::{KeyBytes, RadixKey};
+use art_pages::Page;
 use art_tree::ArtTree;
 use std::alloc::Global;
 use std::marker::Model;
 
-/// A map over a tree `T`, of which contracts see `S`. Callers name it [`ArtMap`], which has an example,
-/// or [`ArtTreeMap`].
+/// How many entries a page has, at most.
+pub(crate) const MOST: usize = 63;
+
+/// How many entries the first page has, at most, where there is no tree. Each half of them has room for one more.
+pub(crate) const FIRST_MOST: usize = 124;
+
+/// What holds the pages of a map but the first: [`Tree`] is one.
+pub trait HoldsPages<K, V>: Sized {
+    ghost use Rattle.std.specs.Prelude.{ℕ, List};
+
+    /// The pages in ascending order, each the text of its anchor and its entries.
+    ghost pages: { Self → List (List ℕ × List (K × V)) };
+}
+
+/// A tree with a page in each leaf, under the page's anchor.
+pub type Tree<K, V> = ArtTree<Anchor, Page<K, V>, 16>;
+
+/// A leaf of it.
+pub type Leaf<K, V> = LeafPtr<Anchor, Page<K, V>, 16>;
+
+impl<K: KeyBytes, V> HoldsPages<K, V> for ArtTree<Anchor, Page<K, V>, 16> {
+    ghost use Rattle.art_map.specs.Trees.{pages_of};
+
+    ghost pages = { λ tree. pages_of tree.arena };
+}
+
+/// An ordered map over a tree of pages. Callers name it [`Map`].
 #[derive(Drop)]
-pub struct MapOver<T, S: ViewOf<T>> {
-    tree: T,
-    // `PhantomData<S>` would hide a lifetime in `S` from the prover.
-    view: [S; 0],
+pub struct MapOver<T: HoldsPages<K, V>, K: KeyBytes, V> {
+    // The entries below all anchors.
+    head: Page<K, V>,
+    tree: Option<Box<T>>,
+    len: usize,
+    alloc: Global,
 }
 
-impl<T, S: ViewOf<T>> Model for MapOver<T, S> {
-    ghost Value = { S };
+impl<T: HoldsPages<K, V>, K: KeyBytes, V> Model for MapOver<T, K, V> {
+    ghost use Rattle.std.specs.Prelude.{◌≡◌, List, length};
 
-    ghost view = { λ map. S.seen map.tree };
+    ghost Value = { List (K × V) };
+
+    ghost use Rattle.art_map.specs.Pages.{map_entries, IsMap};
+    ghost use Rattle.art_map.specs.Trees.{pages_in};
+
+    ghost view = { λ map. map_entries map.head.entries (pages_in (λ tree. T.pages tree.value) map.tree) };
+
+    ghost invariant = { λ map. IsMap K.order K.is_key K.encoded map.head.entries (pages_in (λ tree. T.pages tree.value) map.tree)
+        × (map.len ≡ length (map_entries map.head.entries (pages_in (λ tree. T.pages tree.value) map.tree))) };
 }
 
-/// How many bytes of its compressed prefix a node stores, where no other number is wanted.
-pub const DEFAULT_PREFIX_LEN: usize = 16;
+/// An ordered map: the list of its entries, in ascending order of their keys.
+pub type Map<K, V> = MapOver<Tree<K, V>, K, V>;
 
-/// An ordered map: the list of its entries, in ascending order of the bytes of their keys. No key is
-/// a proper prefix of another. No call has a condition but those that take a closure: it may be called.
-///
-/// A key to look for, a bound and a prefix are of any type with bytes. So those of another mapping than
-/// the keys' compile too, and answer by their bytes: a map by `Mapped<ToIBE, i64>` takes the bytes of a
-/// `Mapped<ToUBE, u64>` for those of another number. An alias of the key type, as `type Port =
-/// Mapped<ToUBE, u16>`, that is used for both avoids it.
-///
-/// `PREFIX_LEN` is how many bytes of its compressed prefix an inner node of the tree stores, for
-/// example [`DEFAULT_PREFIX_LEN`]. It changes no result of a call.
-///
-/// The type names the nodes of the tree, as [`ArtTree`] does.
-///
-/// A map with `tin`, `titanium` and `iron`:
-///
-/// (from crates/art_map_tests/src/map/map_examples.rt)
-/// ```rust
-/// assert!(rt; map.get(b"tin") == Some(&50));
-/// let mut with_ti = map.prefix(b"ti");
-/// let Some((key, value)) = with_ti.next() else {
-///     panic!(rt; "no entry");
-/// };
-/// assert!(rt; key.get() == "tin" && *value == 50);
-/// ```
-pub type ArtMap<K, V, const PREFIX_LEN: usize> = MapSeenAs<K, V, PREFIX_LEN, EntryList<K, V>>;
-
-/// The map, seen by contracts as the tree that it is over: its entries, and the memory that it has. Calls
-/// that change it are those of [`ArtMap`], but for the ones that make, take or return another map or many
-/// entries; it is read through [`tree`](MapOver::tree).
-pub type ArtTreeMap<K, V, const PREFIX_LEN: usize> = MapSeenAs<
-    K,
-    V,
-    PREFIX_LEN,
-    ArtTree<K, V, PREFIX_LEN>,
->;
-
-/// A map of which contracts see `S`: an [`ArtMap`] or an [`ArtTreeMap`].
-pub type MapSeenAs<K, V, const PREFIX_LEN: usize, S> = MapOver<ArtTree<K, V, PREFIX_LEN>, S>;
-
-impl<K: AsBytes, V, const PREFIX_LEN: usize, S> MapSeenAs<K, V, PREFIX_LEN, S>
-where
-    S: MapView<K, V, PREFIX_LEN>,
-{
-    /// A map with no entries. Takes no memory.
+impl<K: RadixKey, V> Map<K, V> {
+    /// A map with no entries. It takes no memory.
     pub fn new(alloc: Global) -> Self
-        ensures entries { S.entries result ≡ [] }
-        ensures memory { S.memory result result WithoutRoom }
+        ensures { result ≡ [] }
     {
-        let tree = ArtTree::new(alloc);
-        MapOver { tree, view: [] }
+        MapOver {
+            head: Page::new(alloc),
+            tree: None,
+            len: 0,
+            alloc,
+        }
+    }
+
+    /// How many entries the map has.
+    pub fn len(&self) -> usize
+        ensures len { result ≡ length self.now }
+        ensures ordered { IsOrdered K.cmp self.now }
+    {
+        self.len
+    }
+
+    /// Whether the map has no entries.
+    pub fn is_empty(&self) -> bool
+        ensures { IsTrue result ↔ (self.now ≡ []) }
+    {
+        self.len == 0
     }
 }

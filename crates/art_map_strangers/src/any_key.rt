@@ -1,6 +1,6 @@
 //! An index by keys of any type.
 use art_keys::{RadixKey, RadixQuery};
-use page_map::Map;
+use art_map::Map;
 use std::alloc::Global;
 
 #[derive(Drop)]

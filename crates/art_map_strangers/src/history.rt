@@ -1,5 +1,5 @@
 //! An index of releases: by the number of a host, the name of a program, and the newest first.
-use page_map::Map;
+use art_map::Map;
 use std::alloc::Global;
 use std::cmp::Reverse;
 

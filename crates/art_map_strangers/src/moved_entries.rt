@@ -1,5 +1,5 @@
 //! Entries moved out of a map by value, and from one map into another.
-use page_map::{InsertFault, Map};
+use art_map::{InsertFault, Map};
 use std::alloc::{AllocError, Global};
 
 /// The words that were counted so often or more, in their order. The map is taken apart.

@@ -1,5 +1,5 @@
 //! Keys of nine numbers.
-use page_map::Map;
+use art_map::Map;
 use std::alloc::Global;
 
 type Triple = (u64, u64, u64);

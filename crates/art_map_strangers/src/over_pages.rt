@@ -1,5 +1,5 @@
 //! A stock over a map by pages: `over_std` under another `use` line.
-use page_map::Map as BTreeMap;
+use art_map::Map as BTreeMap;
 use std::alloc::Global;
 
 type Stock = BTreeMap<String, u32>;

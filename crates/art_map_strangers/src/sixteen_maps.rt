@@ -1,5 +1,5 @@
 //! A struct with sixteen maps, by keys of as many types.
-use page_map::Map;
+use art_map::Map;
 use std::alloc::Global;
 use std::cmp::Reverse;
 use std::net::Ipv4Addr;

@@ -1,5 +1,5 @@
 //! How often each word is there: values that are lent, and added where there are none.
-use page_map::Map;
+use art_map::Map;
 use std::alloc::{AllocError, Global};
 
 /// How often each of these words is there.

@@ -3,4 +3,4 @@ mod cursor_callers;
 mod map_examples;
 mod reserved_entries;
 
-use art_map::ArtMap;
+use leaf_map::ArtMap;

@@ -9,7 +9,7 @@ use Rattle.std.proofs.lemmas.List.Elements.{All-head, All-tail, All-nil, All-con
 use Rattle.art_bytes.specs.Text.{text_order}
 use Rattle.art_tree.specs.Entries.{put_entry, without_text}
 use Rattle.art_tree.specs.Refusals.{texts_of}
-use Rattle.art_map.specs.Entries.{entry_with, entries_with_value}
+use Rattle.leaf_map.specs.Entries.{entry_with, entries_with_value}
 use Rattle.art_routes.specs.KeyLaws.{key_order}
 use Rattle.art_routes.specs.Keys.{key_text}
 use Rattle.art_routes.specs.Networks.{Block, IsNetwork, network_order}

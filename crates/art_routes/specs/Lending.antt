@@ -3,8 +3,8 @@ use denote.Param.{number}
 use Rattle.std.specs.Prelude.{◌≡◌, List, Option, OnSome}
 use Rattle.std.specs.Borrow.{Fml, LendsSo, MutBor, RattleType}
 use Rattle.art_tree.specs.Entries.{entries_of}
-use Rattle.art_map.specs.MapLending.{seen_row}
-use Rattle.art_map.specs.contracts.view.EntryList as list
+use Rattle.leaf_map.specs.MapLending.{seen_row}
+use Rattle.leaf_map.specs.contracts.view.EntryList as list
 use Rattle.art_routes.specs.Keys.{key_text}
 use Rattle.art_routes.specs.Networks.{Block, IsNetwork}
 use Rattle.art_routes.specs.Tables.{routes_with_value}

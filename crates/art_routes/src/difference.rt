@@ -12,7 +12,7 @@ use crate::route_key::RouteKey;
 use crate::routes::{Routes, RoutesOver};
 use crate::table::RouteTable;
 use crate::way::PREFIX_LEN;
-use art_map::Iter;
+use leaf_map::Iter;
 use std::cmp::Ordering;
 use std::iter::FusedIterator;
 use std::marker::Model;

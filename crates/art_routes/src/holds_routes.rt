@@ -2,7 +2,7 @@
 
 use crate::route_key::RouteKey;
 use crate::way::PREFIX_LEN;
-use art_map::{ArtMap, IntoIter, Iter};
+use leaf_map::{ArtMap, IntoIter, Iter};
 
 /// What holds entries by the keys of networks: the map of a table, or its entries that are left.
 pub trait HoldsRoutes<V>: Sized {

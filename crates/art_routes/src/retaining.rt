@@ -2,8 +2,8 @@
 ghost use Rattle.std.specs.Prelude.{◌≡◌, ◌∷◌, [], IfNone, IfOk, IfSome, OnErr, OnOk, length, map};
 ghost use Rattle.std.specs.Map.Calls.{CallableOnEachPair, CalledAtPair, RetainsPairs, TakesPair};
 ghost use Rattle.art_nodes.specs.declared.pointers.OpaqueNodePtr.{OpaqueNodePtr as Pointer};
-ghost use Rattle.art_map.specs.Retaining.{StopsRetaining};
-ghost use Rattle.art_map.specs.Shrinking.{NeedsNode};
+ghost use Rattle.leaf_map.specs.Retaining.{StopsRetaining};
+ghost use Rattle.leaf_map.specs.Shrinking.{NeedsNode};
 ghost use Rattle.art_routes.specs.Keys.{key_text};
 ghost use Rattle.art_routes.specs.Networks.{Block};
 ghost use Rattle.art_routes.specs.Removing.{LosesFirstCovered, without_covered};

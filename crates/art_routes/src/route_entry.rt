@@ -4,7 +4,7 @@ ghost use Rattle.std.specs.Borrow.{MutBor, sem};
 ghost use Rattle.std.specs.Fn.{FnOnceReturnsAtMut};
 ghost use Rattle.std.specs.Option.{UnwrapsOrElse, is_some, option_copied, option_copied_mut, unwrap_or};
 ghost use Rattle.art_nodes.specs.declared.pointers.OpaqueNodePtr.{OpaqueNodePtr as Pointer};
-ghost use Rattle.art_map.specs.Shrinking.{NeedsNode};
+ghost use Rattle.leaf_map.specs.Shrinking.{NeedsNode};
 ghost use Rattle.art_routes.specs.Keys.{key_text};
 ghost use Rattle.art_routes.specs.Lending.{LendsRoute};
 ghost use Rattle.art_routes.specs.Networks.{Block};

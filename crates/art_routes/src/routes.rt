@@ -6,7 +6,7 @@ use crate::holds_routes::HoldsRoutes;
 use crate::network::Network;
 use crate::route_key::{RouteKey, network_from};
 use crate::way::PREFIX_LEN;
-use art_map::{IntoIter, Iter};
+use leaf_map::{IntoIter, Iter};
 use std::iter::FusedIterator;
 use std::marker::{Model, PhantomData};
 

@@ -3,7 +3,7 @@ ghost use Rattle.std.specs.Prelude.{◌≡◌, ◌≢◌, ◌↔◌, ◌⊎◌, 
 ghost use Rattle.std.specs.Borrow.{sem};
 ghost use Rattle.std.specs.Option.{option_copied, option_copied_mut, option_map};
 ghost use Rattle.art_nodes.specs.declared.pointers.OpaqueNodePtr.{OpaqueNodePtr as Pointer};
-ghost use Rattle.art_map.specs.Shrinking.{NeedsNode};
+ghost use Rattle.leaf_map.specs.Shrinking.{NeedsNode};
 ghost use Rattle.art_routes.specs.Keys.{key_text};
 ghost use Rattle.art_routes.specs.Lending.{LendsRoute};
 ghost use Rattle.art_routes.specs.Networks.{Block, IsNetwork, address_of, covers};
@@ -19,7 +19,7 @@ use crate::refused_route::RefusedRoute;
 use crate::route_key::{RouteKey, key_of};
 use crate::routes::{IntoRoutes, Routes, RoutesOver};
 use crate::way::PREFIX_LEN;
-use art_map::ArtMap;
+use leaf_map::ArtMap;
 use std::alloc::{AllocError, Global};
 use std::marker::{Model, PhantomData};
 use std::net::IpAddr;

@@ -1,5 +1,5 @@
 //! A table of values of any type: a struct over its map, and an alias that names the map.
-use art_map::{Map, Mapped, ToUBE};
+use leaf_map::{Map, Mapped, ToUBE};
 use std::alloc::{AllocError, Global};
 
 type Port = Mapped<ToUBE, u16>;

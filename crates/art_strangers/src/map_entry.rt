@@ -1,5 +1,5 @@
 //! Entries of maps: looked up, added, changed and removed in place.
-use art_map::{Entry, Escaped, InsertFault, Map, Mapped, ToUBE};
+use leaf_map::{Entry, Escaped, InsertFault, Map, Mapped, ToUBE};
 use std::alloc::AllocError;
 
 type Word = [u8; 3];

@@ -1,5 +1,5 @@
 //! Maps that name no number.
-use art_map::{Map, Mapped, ToUBE};
+use leaf_map::{Map, Mapped, ToUBE};
 use std::alloc::Global;
 
 type Number = Mapped<ToUBE, u64>;

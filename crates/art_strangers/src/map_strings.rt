@@ -1,6 +1,6 @@
 //! Keys that are strings.
-use art_map::{ArtMap, Escaped, Map, Mapped};
 use art_tree::SliceKey;
+use leaf_map::{ArtMap, Escaped, Map, Mapped};
 use std::alloc::{AllocError, Global};
 use std::ops::Bound;
 

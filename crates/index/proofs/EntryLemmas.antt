@@ -5,7 +5,7 @@ use Rattle.std.proofs.lemmas.List.Elements.{All-contains, All-head, All-tail}
 use Rattle.std.specs.declared.cmp.Ordering.TheVariants.{Equal}
 use Rattle.art_bytes.specs.Text.{text_order}
 use Rattle.art_tree.specs.Entries.{put_entry}
-use Rattle.art_map.proofs.CallLaws.{all_after_put, image_inside, inside_image, order_itself, others_there, put_only as entry_only, put_there as entry_there}
+use Rattle.leaf_map.proofs.CallLaws.{all_after_put, image_inside, inside_image, order_itself, others_there, put_only as entry_only, put_there as entry_there}
 
 -- the values of entries
 abbrev pub values_of : {K V : Type 0} → List (K × V) → List V

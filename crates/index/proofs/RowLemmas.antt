@@ -12,7 +12,7 @@ use Rattle.std.specs.declared.cmp.Ordering.{Ordering}
 use Rattle.std.specs.declared.cmp.Ordering.TheVariants.{Less, Equal, Greater}
 use Rattle.std.specs.declared.net.Ipv6Addr.{Ipv6Addr}
 use Rattle.art_bytes.specs.Text.{text_order}
-use Rattle.art_map.specs.Ranges.{entries_above}
+use Rattle.leaf_map.specs.Ranges.{entries_above}
 use Rattle.art_mapped.specs.Numbers.{IsSigned}
 use Rattle.art_tree.specs.Entries.{put_entry}
 use Rattle.index.specs.Keys.{AreKeyBytes, IsKeyed, AreKeyed}

@@ -5,7 +5,7 @@ ghost use Rattle.index.specs.Rows.{IsIndex};
 
 use crate::reading::Reading;
 use crate::row_key::RowKey;
-use art_map::{ArtMap, DEFAULT_PREFIX_LEN};
+use leaf_map::{ArtMap, DEFAULT_PREFIX_LEN};
 use std::alloc::{AllocError, Global};
 
 /// A row of the table.

@@ -7,7 +7,7 @@ ghost use Rattle.index.specs.Searches.{IsNextHost};
 
 use crate::row_key::RowKey;
 use crate::rows::{Row, RowMap};
-use art_map::{DEFAULT_PREFIX_LEN, Iter};
+use leaf_map::{DEFAULT_PREFIX_LEN, Iter};
 use std::net::Ipv6Addr;
 use std::ops::Bound;
 

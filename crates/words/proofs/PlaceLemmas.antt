@@ -12,7 +12,7 @@ use Rattle.std.proofs.Math.Nat.{mod-eq_of_lt}
 use Rattle.std.proofs.lemmas.Bool.{cases_Bool}
 use Rattle.std.proofs.lemmas.List.{length-append, length-map}
 use Rattle.std.proofs.lemmas.List.Elements.{All-head, All-tail}
-use Rattle.art_map.specs.Calls.{ChangesInTurn, ChangesValue}
+use Rattle.leaf_map.specs.Calls.{ChangesInTurn, ChangesValue}
 use denote.Param.Members.{Mut}
 use denote.Ref.{Bor, MutBor}
 use Rattle.words.specs.Dictionaries.{word_of}

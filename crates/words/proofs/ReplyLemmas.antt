@@ -20,7 +20,7 @@ use Rattle.art_bytes.specs.CString.{HasNoZero, IsCString}
 use Rattle.art_bytes.specs.CStringKey.{c_string_key_text}
 use Rattle.art_bytes.specs.Text.{text_order}
 use Rattle.art_bytes.specs.declared.c_string_key.CStringKey.{CStringKey}
-use Rattle.art_map.specs.Ranges.{entries_above, entries_with_prefix}
+use Rattle.leaf_map.specs.Ranges.{entries_above, entries_with_prefix}
 use Rattle.art_tree.specs.Refusals.{texts_of}
 use Rattle.words.specs.Dictionaries.{IsDictionary, word_of}
 use Rattle.words.specs.Places.{words_of}

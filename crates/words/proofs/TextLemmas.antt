@@ -4,8 +4,8 @@ use Rattle.std.proofs.Math.Seq.{take-suc}
 use Rattle.std.specs.Cmp.Lexicographic.{pointwise}
 use Rattle.std.proofs.lemmas.List.{map-append}
 use Rattle.std.proofs.lemmas.List.Elements.{Contains-append_left, Contains-push, Contains-push_cases}
-use Rattle.art_map.specs.Entries.{entry_with}
-use Rattle.art_map.proofs.CallLaws.{found_after_put, none_has, one_has, same_text, text_itself}
+use Rattle.leaf_map.specs.Entries.{entry_with}
+use Rattle.leaf_map.proofs.CallLaws.{found_after_put, none_has, one_has, same_text, text_itself}
 use Rattle.art_tree.specs.Entries.{put_entry}
 use Rattle.art_tree.specs.Refusals.{texts_of}
 

@@ -9,7 +9,7 @@ ghost use Rattle.words.specs.Queries.{SayWord};
 use crate::fault::Fault;
 use crate::query::without_zero;
 use art_bytes::{AsBytes, CStringKey};
-use art_map::{ArtMap, DEFAULT_PREFIX_LEN};
+use leaf_map::{ArtMap, DEFAULT_PREFIX_LEN};
 use program_lines::FromLine;
 use std::alloc::{AllocError, Global};
 

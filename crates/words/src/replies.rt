@@ -13,7 +13,7 @@ use crate::dictionary::{Dictionary, Word, dictionary_of, key_of, word_of};
 use crate::fault::Fault;
 use crate::query::Query;
 use art_bytes::{CStringKey, SliceKey};
-use art_map::{DEFAULT_PREFIX_LEN, Iter};
+use leaf_map::{DEFAULT_PREFIX_LEN, Iter};
 use program_lines::{
     Failure, LineFault, Program, Source, item_of, push_line, push_number, said_whole,
 };

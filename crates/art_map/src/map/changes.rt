@@ -1,429 +1,154 @@
-//! Calls that change a map: entries that are added and removed, values that are changed in place,
-//! and the memory that there is for them.
-ghost use Rattle.std.specs.Prelude.{◌≡◌, ◌≢◌, IfOk, IfErr, IfNone, IfSome, OnOk, OnErr, None, filter, is_ok, map, not, []};
-ghost use Rattle.std.specs.Option.{option_map, option_copied_mut, UnwrapsOrElse};
-ghost use Rattle.art_map.specs.Changes.{IsEntryRefused, EntryMayEnter};
-ghost use Rattle.art_tree.specs.Entries.{put_entry, without_text, entries_of};
-ghost use Rattle.art_tree.specs.Refusals.{texts_of};
-ghost use Rattle.art_nodes.specs.declared.pointers.OpaqueNodePtr.{OpaqueNodePtr as Pointer};
-ghost use Rattle.art_map.specs.Entries.{entry_with};
-ghost use Rattle.art_map.specs.Shrinking.{NeedsNode};
-ghost use Rattle.std.specs.Borrow.{sem};
-ghost use Rattle.art_map.specs.Calls.{CallableInTurn, ChangesInTurn};
-ghost use Rattle.art_map.specs.MapCursors.{IsAt, cursor_tree};
-ghost use Rattle.art_map.specs.MapLending.{LendsValueIn, LendsTree};
-ghost use Rattle.art_map.specs.Ranges.{entries_outside, entries_with_prefix, entries_within, entries_without_prefix, is_from};
-ghost use Rattle.art_map.specs.EnteredValues.{LendsValueOf};
-ghost use Rattle.art_tree.specs.declared.insert.InsertRefusal.TheVariants.{OutOfMemory};
-ghost use Rattle.art_map.specs.Memory.{Emptied, Inserted, KeptNodes, KeptRoom, LackedRoomFor, Removed, Unchanged, WithRoomFor};
+//! Entries added.
+ghost use Rattle.std.specs.Prelude.{◌≡◌, ◌+◌, ◌≤◌, ◌^◌, ◌↔◌, None, Some, length, is_some, if◌then◌else◌, IfOk, IfErr, IfNone, IfSome, IsSome, OnOk, OnErr};
+ghost use Rattle.std.specs.BTreeMap.{insert_entry, is_at};
+ghost use Rattle.std.specs.Map.{set_key};
+ghost use Rattle.art_pages.specs.Entries.{AreKeys, IsIndexable, IsOrdered, get_by, get_key_by};
+ghost use Rattle.art_map.specs.declared.fault.InsertRefusal.TheVariants.{KeyTooLong};
 
-use crate::cursor::cut_at;
-use crate::cursor_mut::{CursorMut, CursorOver};
-use crate::map::MapSeenAs;
-use crate::map::laws::removals_need_nodes;
-use crate::map::ranges::{end_of, start_of};
-use crate::view::MapView;
-use crate::walk::for_each_between;
-use art_bytes::AsBytes;
-use art_tree::laws::the_list_of_entries_changes_with_them;
-use art_tree::{ArtTree, InsertFault, Side};
+use super::{FIRST_MOST, MOST, Map};
+use crate::fault::{InsertFault, InsertRefusal, TOO_LONG, refuse};
+use crate::put::{put, swap};
+use crate::room::make_room;
+use art_keys::RadixKey;
 use std::alloc::AllocError;
-use std::ops::Bound;
 
-impl<K: AsBytes, V, const PREFIX_LEN: usize, S> MapSeenAs<K, V, PREFIX_LEN, S>
-where
-    S: MapView<K, V, PREFIX_LEN>,
-{
-    /// Adds an entry. Where an entry has the same key bytes, its key and its value are replaced and
+impl<K: RadixKey, V> Map<K, V> {
+    /// Inserts an entry. Where the key is there, it stays and takes the value, and the old value is
     /// returned.
     ///
-    /// Where an entry has the key bytes, it succeeds. Else the first of these refusals that is due is
-    /// returned, with key and value: [`KeyTooLong`], a key of 2^32 bytes or more; [`Prefix`], where the
-    /// key is a proper prefix of a key of the map, or one of the map of the key; [`OutOfMemory`]. After
-    /// a refusal the entries are unchanged.
-    ///
-    /// Visits the nodes on the way to the key's place, and then those on the way to a leaf beside
-    /// it, as [`ArtTree::insert`] does.
-    ///
-    /// [`ArtTree::insert`]: art_tree::ArtTree::insert
-    /// [`KeyTooLong`]: art_tree::InsertRefusal::KeyTooLong
-    /// [`Prefix`]: art_tree::InsertRefusal::Prefix
-    /// [`OutOfMemory`]: art_tree::InsertRefusal::OutOfMemory
-    pub fn insert(&mut self, key: K, value: V) -> Result<Option<(K, V)>, InsertFault<K, V>>
-        ensures replaced { IfOk result
-            (λ before. before ≡ entry_with K.text (S.entries self.old) (K.text key)) }
-        ensures entries { OnOk result
-            (S.entries self.new ≡ put_entry K.text (S.entries self.old) (key, value)) }
-        ensures no_refusal { OnOk result (EntryMayEnter K.text (S.entries self.old) (K.text key)) }
-        ensures refusal_due { IfErr result
-            (λ fault. IsEntryRefused K.text (S.entries self.old) (K.text key) fault.refusal) }
-        ensures no_entry { OnErr result (entry_with K.text (S.entries self.old) (K.text key) ≡ None) }
-        ensures entry_back { IfErr result (λ fault. (fault.key ≡ key) × (fault.value ≡ value)) }
-        ensures same_entries { OnErr result (S.entries self.new ≡ S.entries self.old) }
-        ensures memory { S.memory self.old self.new (Inserted (K.text key) result) }
-        ensures is_key { K.is_key key }
+    /// Only a key that is not there is refused, and then the entry comes back and the map is as it was:
+    /// as too long where its encoding has 2^32 bytes or more, else for memory.
+    pub fn insert(&mut self, key: K, value: V) -> Result<Option<V>, InsertFault<K, V>>
+    where
+        K: Drop,
+        V: Drop,
+        ensures old { IfOk result (λ old. old ≡ get_by (K.cmp key) self.old) }
+        ensures entries { OnOk result (self.new ≡ insert_entry K.cmp self.old key value) }
+        ensures too_long { IfErr result
+            (λ fault. (fault.refusal ≡ KeyTooLong) ↔ (2 ^ 32 ≤ length (K.encoded key))) }
+        ensures returned { IfErr result (λ fault. (fault.key ≡ key) × (fault.value ≡ value)) }
+        ensures absent { OnErr result (get_by (K.cmp key) self.old ≡ None) }
+        ensures err { OnErr result (self.new ≡ self.old) }
+        ensures ordered { IsOrdered K.cmp self.new }
     {
-        self.entries_ascend();
-        self.tree.insert(key, value)
+        self.show_keys();
+        if TOO_LONG <= key.encoded_len() {
+            return Err(refuse(InsertRefusal::KeyTooLong, key, value));
+        }
+        let (key, value) = match self.put(key, value) {
+            Ok(old) => return Ok(old),
+            Err(back) => back,
+        };
+        if self.make_room(&key).is_err() {
+            return Err(refuse(InsertRefusal::OutOfMemory, key, value));
+        }
+        match self.put(key, value) {
+            Ok(old) => Ok(old),
+            Err((key, value)) => Err(refuse(InsertRefusal::OutOfMemory, key, value)),
+        }
     }
 
-    /// Adds an entry where none has the same key bytes. Where one has, it is kept, and key and value
-    /// are returned.
+    /// Inserts an entry where its key is not there. Where it is, the map is as it was, and key and value
+    /// come back.
     ///
-    /// Only a key without an entry is refused, as [`insert`](Self::insert) refuses it. Visits at most
-    /// one node more than the key has bytes, and then costs as much as [`insert`](Self::insert) where
-    /// there is no such entry.
-    ///
-    /// A map in which `tin` has the value 50:
-    ///
-    /// (from tests/art_map_tests/map/taken_entries.rt.txt)
-    /// ```rust
-    /// let back = prices
-    ///     .try_insert(StrKey::new("tin"), 1)
-    ///     .map_err(|fault| fault.refusal)?;
-    /// assert!(rt; back.is_some());
-    /// assert!(rt; prices.get(b"tin") == Some(&50));
-    /// ```
+    /// Only a key that is not there is refused, as [`insert`](Self::insert) refuses it. Costs a search
+    /// more than `insert`.
     pub fn try_insert(&mut self, key: K, value: V) -> Result<Option<(K, V)>, InsertFault<K, V>>
-        ensures kept { IfOk result (λ back. IfSome back (λ entry.
-            (entry ≡ (key, value)) × (S.entries self.new ≡ S.entries self.old)
-            × (entry_with K.text (S.entries self.old) (K.text key) ≢ None))) }
-        ensures added { IfOk result (λ back. IfNone back (
-            (entry_with K.text (S.entries self.old) (K.text key) ≡ None)
-            × (S.entries self.new ≡ put_entry K.text (S.entries self.old) (key, value)))) }
-        ensures no_refusal { IfOk result (λ back. IfNone back (EntryMayEnter K.text (S.entries self.old) (K.text key))) }
-        ensures refusal_due { IfErr result
-            (λ fault. IsEntryRefused K.text (S.entries self.old) (K.text key) fault.refusal) }
-        ensures no_entry { OnErr result (entry_with K.text (S.entries self.old) (K.text key) ≡ None) }
-        ensures entry_back { IfErr result (λ fault. (fault.key ≡ key) × (fault.value ≡ value)) }
-        ensures same_entries { OnErr result (S.entries self.new ≡ S.entries self.old) }
-        ensures memory { S.memory self.old self.new (Inserted (K.text key) result) }
-        ensures is_key { K.is_key key }
+    where
+        K: Drop,
+        V: Drop,
+        ensures kept { IfOk result (λ back. IfSome back (λ entry. (entry ≡ (key, value))
+            × (self.new ≡ self.old) × IsSome (get_by (K.cmp key) self.old))) }
+        ensures added { IfOk result (λ back. IfNone back ((get_by (K.cmp key) self.old ≡ None)
+            × (self.new ≡ insert_entry K.cmp self.old key value))) }
+        ensures too_long { IfErr result
+            (λ fault. (fault.refusal ≡ KeyTooLong) ↔ (2 ^ 32 ≤ length (K.encoded key))) }
+        ensures returned { IfErr result (λ fault. (fault.key ≡ key) × (fault.value ≡ value)) }
+        ensures absent { OnErr result (get_by (K.cmp key) self.old ≡ None) }
+        ensures err { OnErr result (self.new ≡ self.old) }
+        ensures ordered { IsOrdered K.cmp self.new }
     {
-        let (_bytes, _tree) = (key.as_bytes(), &self.tree);
         if self.contains_key(&key) {
+            self.show_keys();
             return Ok(Some((key, value)));
         }
-        self.insert(key, value)
-    }
-
-    /// Removes the entry with the bytes of this key, if there is one, and returns it.
-    ///
-    /// An allocation may fail only where there is such an entry, and the parent of its leaf has 5, 17 or
-    /// 49 children, since a node of a smaller kind takes its place. After a failure the entries are
-    /// unchanged.
-    ///
-    /// Visits at most one node more than the key has bytes, and changes at most three of them.
-    pub fn remove_entry<Q: AsBytes>(&mut self, key: &Q) -> Result<Option<(K, V)>, AllocError>
-        ensures removed { IfOk result
-            (λ entry. entry ≡ entry_with K.text (S.entries self.old) (Q.text key.now)) }
-        ensures entries { OnOk result (S.entries self.new ≡ without_text K.text (S.entries self.old) (Q.text key.now)) }
-        ensures refused { OnErr result (entry_with K.text (S.entries self.old) (Q.text key.now) ≢ None) }
-        ensures needs_node { OnErr result
-            (NeedsNode (Pointer K V PREFIX_LEN) (texts_of K.text (S.entries self.old)) (Q.text key.now)) }
-        ensures same_entries { OnErr result (S.entries self.new ≡ S.entries self.old) }
-        ensures memory { S.memory self.old self.new (Removed (Q.text key.now) (is_ok result)) }
-    {
-        removals_need_nodes(&self.tree);
-        self.tree.remove(key.as_bytes())
-    }
-
-    /// Reserves memory for `additional` more entries, as [`ArtTree::reserve_entries`] does: as many
-    /// inserts of new keys, and removals, take none. The entries are unchanged, also after a failure.
-    ///
-    /// A list of entries shows no memory. An [`ArtTreeMap`](crate::ArtTreeMap) shows the tree, and its
-    /// clauses say that none of the next calls is refused for memory, each of which leaves room for one
-    /// fewer (`HasEntryRoom`).
-    ///
-    /// (from tests/art_map_tests/map/refusals.rt.txt)
-    /// ```rust
-    /// map.reserve(WORDS.len())?;
-    /// ```
-    ///
-    /// [`ArtTree::reserve_entries`]: art_tree::ArtTree::reserve_entries
-    pub fn reserve(&mut self, additional: usize) -> Result<(), AllocError>
-        ensures same_entries { S.entries self.new ≡ S.entries self.old }
-        ensures room { OnOk result (S.memory self.old self.new (WithRoomFor additional)) }
-        ensures nodes_kept { S.memory self.old self.new KeptNodes }
-    {
-        the_list_of_entries_changes_with_them::<K, V, PREFIX_LEN>();
-        self.tree.reserve_entries(additional)
-    }
-
-    /// The tree that the map is over, to be changed: the map ends with the entries of the tree that is
-    /// left. No memory is taken before.
-    ///
-    /// (from crates/art_map_tests/src/map/reserved_entries.rt)
-    /// ```rust
-    /// let tree = prices.tree_mut();
-    /// tree.reserve_entries(entries.len())?;
-    /// ```
-    pub fn tree_mut(&mut self) -> &mut ArtTree<K, V, PREFIX_LEN>
-        ensures* writes_back { sem 𝓛 (LendsTree K.row V.row PREFIX_LEN.row S.row K.text K.is_key
-            S.seen self.entry result) }
-        ensures entries { entries_of K.text result.now.arena ≡ S.entries self.old }
-        ensures tree { S.memory self.old (S.seen result.now) Unchanged }
-    {
-        &mut self.tree
-    }
-
-    /// A cursor at the first entry at or behind the start, or behind the last entry where there is none.
-    /// The start need not be a key of the map. The map ends with the entries that are left in its tree.
-    /// Costs as much as [`lower_bound`](Self::lower_bound). Takes no memory.
-    ///
-    /// What the map is afterwards a proof knows by [`CursorMut::in_tree`]. See [`CursorMut`] for an example.
-    pub fn cursor_mut<Q: AsBytes>(&mut self, start: Bound<&Q>) -> CursorMut<'_, K, V, PREFIX_LEN>
-        ensures* writes_back { sem 𝓛 (LendsTree K.row V.row PREFIX_LEN.row S.row K.text K.is_key
-            S.seen self.entry (cursor_tree result)) }
-        ensures entries { entries_of K.text (cursor_tree result).now.arena ≡ S.entries self.old }
-        ensures at_start { IsAt K.text result
-            (filter (λ entry. not (is_from Q.text start.entry (K.text entry.0))) (S.entries self.old))
-            (filter (λ entry. is_from Q.text start.entry (K.text entry.0)) (S.entries self.old)) }
-        ensures tree { S.memory self.old (S.seen (cursor_tree result).now) Unchanged }
-    {
-        let (side, key) = start_of(start);
-        let leaf = cut_at(&self.tree, side, key);
-        CursorOver {
-            tree: &mut self.tree,
-            leaf,
+        match self.insert(key, value) {
+            Ok(_) => Ok(None),
+            Err(fault) => Err(fault),
         }
     }
 
-    /// A mutable reference to the value of the entry with the bytes of this key, or None where there
-    /// is none. The map ends with the same keys in the same places, and this entry with the value
-    /// that the caller leaves there. Costs as much as [`get`](Self::get). Takes no memory.
+    /// Puts a key into the place of the equal key that the map has, which is returned. Its value and the
+    /// other entries stay. Where there is none, the key comes back. It is never refused.
     ///
-    /// (from tests/art_map_tests/map/taken_entries.rt.txt)
-    /// ```rust
-    /// if let Some(price) = prices.get_mut(b"tin") {
-    ///     *price = 100;
-    /// }
-    /// assert!(rt; prices.get(b"tin") == Some(&100));
-    /// ```
-    pub fn get_mut<Q: AsBytes>(&mut self, key: &Q) -> Option<&mut V>
-        ensures* writes_back { sem 𝓛 (LendsValueIn K.row V.row PREFIX_LEN.row S.row K.text K.is_key
-            S.seen S.entries S.ends_with self.entry (Q.text key.now) result) }
-        ensures value { option_copied_mut result
-            ≡ option_map (λ entry. entry.1) (entry_with K.text (S.entries self.old) (Q.text key.now)) }
+    /// Costs as much as [`get`](Self::get), and the keys of a page are read once, with memory for what a
+    /// search there begins with: refused, such searches take longer, and no more.
+    pub fn replace_key(&mut self, key: K) -> Result<K, K>
+    where
+        K: Drop,
+        V: Drop,
+        ensures old { IfOk result (λ old. get_key_by (K.cmp key) self.old ≡ Some old) }
+        ensures entries { OnOk result (self.new ≡ set_key (is_at (K.cmp key)) self.old key) }
+        ensures returned { IfErr result (λ back. back ≡ key) }
+        ensures absent { OnErr result (get_key_by (K.cmp key) self.old ≡ None) }
+        ensures err { OnErr result (self.new ≡ self.old) }
+        ensures ordered { IsOrdered K.cmp self.new }
     {
-        self.tree.get_mut(key.as_bytes())
+        self.show_keys();
+        if key.encoded_len() >= TOO_LONG {
+            return Err(key);
+        }
+        swap(&mut self.head, &mut self.tree, self.alloc, key)
     }
 
-    /// Calls the closure at each entry, in ascending order of the bytes of their keys. It may change
-    /// the value, and the map ends with the same keys, each with the value that its call left. Visits
-    /// the nodes on the way to the first entry; then each entry takes constant time beside its call.
-    /// Takes no memory and never fails.
-    ///
-    /// Where each call leaves what a function makes of key and value, and changes nothing else, the
-    /// lemma `values_same` of `proofs/CallLaws.antt` has the entries afterwards.
-    ///
-    /// (from tests/art_map_tests/map/taken_entries.rt.txt)
-    /// ```rust
-    /// prices.for_each_value_mut(|_, price| *price = price.wrapping_add(1));
-    /// assert!(rt; prices.get(b"tin") == Some(&51));
-    /// ```
-    pub fn for_each_value_mut<F: FnMut(&K, &mut V)>(&mut self, f: F)
-        requires { CallableInTurn F.FnMut f (S.entries self.old) }
-        ensures in_turn { ChangesInTurn F.FnMut f (S.entries self.old) (S.entries self.new) }
-        ensures same_keys { map (λ entry. entry.0) (S.entries self.new) ≡ map (λ entry. entry.0) (S.entries self.old) }
-        ensures memory { S.memory self.old self.new KeptRoom }
+    // What is known of the entries of each map.
+    fn show_keys(&self)
+        ensures ordered { IsOrdered K.cmp self.now }
+        ensures keys { AreKeys K.is_key K.encoded self.now }
     {
-        for_each_between(&mut self.tree, Side::Before, &[], Side::AfterBegun, &[], f);
+        let _len = &self.len;
     }
 
-    /// Calls the closure at each entry whose key is within the two bounds, as
-    /// [`for_each_value_mut`](Self::for_each_value_mut) does. All other entries are as they were. The
-    /// bounds are those of [`range`](Self::range).
-    ///
-    /// Goes down to the start as [`lower_bound`](Self::lower_bound) does; then each entry takes time linear in
-    /// the bytes that its key shares with the end, beside its call. Takes no memory and never fails.
-    ///
-    /// A map with `iron`, `tin`, `titanium` and `zinc`:
-    ///
-    /// (from tests/art_map_tests/map/changed_values.rt.txt)
-    /// ```rust
-    /// prices.for_each_value_mut_in_range(Bound::Excluded(b"tin"), Bound::Unbounded, |_, price| {
-    ///     *price = 0;
-    /// });
-    /// ```
-    pub fn for_each_value_mut_in_range<Q: AsBytes, F: FnMut(&K, &mut V)>(
-        &mut self,
-        start: Bound<&Q>,
-        end: Bound<&Q>,
-        f: F,
-    )
-        requires { CallableInTurn F.FnMut f
-            (entries_within K.text Q.text start end (S.entries self.old)) }
-        ensures in_turn { ChangesInTurn F.FnMut f
-            (entries_within K.text Q.text start.entry end.entry (S.entries self.old))
-            (entries_within K.text Q.text start.entry end.entry (S.entries self.new)) }
-        ensures others { entries_outside K.text Q.text start.entry end.entry (S.entries self.new)
-            ≡ entries_outside K.text Q.text start.entry end.entry (S.entries self.old) }
-        ensures same_keys { map (λ entry. entry.0) (S.entries self.new) ≡ map (λ entry. entry.0) (S.entries self.old) }
-        ensures memory { S.memory self.old self.new KeptRoom }
+    // Puts an entry where there is room for it, or replaces the value of its key. Takes no memory: else the
+    // entry comes back.
+    fn put(&mut self, key: K, value: V) -> Result<Option<V>, (K, V)>
+    where
+        K: Drop,
+        requires { IsIndexable K.is_key K.encoded key }
+        ensures old { IfOk result (λ old. old ≡ get_by (K.cmp key) self.old) }
+        ensures entries { OnOk result (self.new ≡ insert_entry K.cmp self.old key value) }
+        ensures returned { IfErr result (λ back. back ≡ (key, value)) }
+        ensures absent { OnErr result (get_by (K.cmp key) self.old ≡ None) }
+        ensures same { OnErr result (self.new ≡ self.old) }
+        ensures ordered { IsOrdered K.cmp self.new }
     {
-        let (start_side, start) = start_of(start);
-        let (end_side, end) = end_of(end);
-        for_each_between(&mut self.tree, start_side, start, end_side, end, f);
-    }
-
-    /// Calls the closure at each entry whose key begins with the bytes of this prefix, as
-    /// [`for_each_value_mut`](Self::for_each_value_mut) does. All other entries are as they were. Costs
-    /// as much as [`for_each_value_mut_in_range`](Self::for_each_value_mut_in_range). Takes no memory
-    /// and never fails.
-    ///
-    /// A map with `iron`, `tin`, `titanium` and `zinc`:
-    ///
-    /// (from tests/art_map_tests/map/changed_values.rt.txt)
-    /// ```rust
-    /// prices.for_each_value_mut_with_prefix(b"ti", |_, price| *price += 1);
-    /// ```
-    pub fn for_each_value_mut_with_prefix<Q: AsBytes, F: FnMut(&K, &mut V)>(
-        &mut self,
-        prefix: &Q,
-        f: F,
-    )
-        requires { CallableInTurn F.FnMut f
-            (entries_with_prefix K.text (Q.text prefix.now) (S.entries self.old)) }
-        ensures in_turn { ChangesInTurn F.FnMut f
-            (entries_with_prefix K.text (Q.text prefix.now) (S.entries self.old))
-            (entries_with_prefix K.text (Q.text prefix.now) (S.entries self.new)) }
-        ensures others { entries_without_prefix K.text (Q.text prefix.now) (S.entries self.new)
-            ≡ entries_without_prefix K.text (Q.text prefix.now) (S.entries self.old) }
-        ensures same_keys { map (λ entry. entry.0) (S.entries self.new) ≡ map (λ entry. entry.0) (S.entries self.old) }
-        ensures memory { S.memory self.old self.new KeptRoom }
-    {
-        let (start, end) = (Side::Before, Side::AfterBegun);
-        let bytes = prefix.as_bytes();
-        for_each_between(&mut self.tree, start, bytes, end, bytes, f);
-    }
-}
-
-impl<K: AsBytes + Drop, V, const PREFIX_LEN: usize, S> MapSeenAs<K, V, PREFIX_LEN, S>
-where
-    S: MapView<K, V, PREFIX_LEN>,
-{
-    /// A mutable reference to the value of the entry with the bytes of this key. Where there is none,
-    /// an entry with the key and the value that the closure makes is added first. The entry ends with
-    /// the value that the caller leaves there.
-    ///
-    /// Where the entry is there, its key and its value stay, and nothing that the closure makes is used: a
-    /// test sees that it is not called, and no clause says so. Else it may be refused as by
-    /// [`insert`](Self::insert), with the key and the value that was made, and the entries are then
-    /// unchanged. Costs as much as [`insert`](Self::insert): it goes down once.
-    ///
-    /// A map without `tin`:
-    ///
-    /// (from tests/art_map_tests/map/entered_values.rt.txt)
-    /// ```rust
-    /// *prices.get_or_insert_with(StrKey::new("tin"), || 49)? += 1;
-    /// assert!(rt; prices.get(b"tin") == Some(&50));
-    /// ```
-    pub fn get_or_insert_with<F: FnOnce() -> V>(
-        &mut self,
-        key: K,
-        make: F,
-    ) -> Result<&mut V, InsertFault<K, V>>
-        requires { F.pre make }
-        ensures* writes_back { sem 𝓛 (LendsValueOf K.row V.row PREFIX_LEN.row S.row K.text K.is_key
-            S.seen S.entries S.memory self.entry key result) }
-        ensures value { IfOk result (λ value. UnwrapsOrElse
-            (option_map (λ entry. entry.1) (entry_with K.text (S.entries self.old) (K.text key)))
-            (F.post make) value.now) }
-        ensures no_refusal { OnOk result (EntryMayEnter K.text (S.entries self.old) (K.text key)) }
-        ensures refusal_due { IfErr result
-            (λ fault. IsEntryRefused K.text (S.entries self.old) (K.text key) fault.refusal) }
-        ensures no_entry { OnErr result (entry_with K.text (S.entries self.old) (K.text key) ≡ None) }
-        ensures entry_back { IfErr result (λ fault. (fault.key ≡ key) × F.post make fault.value) }
-        ensures no_room { IfErr result (λ fault. fault.refusal ≡ OutOfMemory →
-            S.memory self.old self.old (LackedRoomFor (K.text key))) }
-        ensures is_key { K.is_key key }
-    {
-        self.entries_ascend();
-        self.tree.get_or_insert_with(key, make)
-    }
-
-    /// Removes the entry with the bytes of this key, if there is one, and returns its value. Fails and
-    /// costs as [`remove_entry`](Self::remove_entry).
-    pub fn remove<Q: AsBytes>(&mut self, key: &Q) -> Result<Option<V>, AllocError>
-        ensures removed { IfOk result (λ value. value
-            ≡ option_map (λ entry. entry.1) (entry_with K.text (S.entries self.old) (Q.text key.now))) }
-        ensures entries { OnOk result (S.entries self.new ≡ without_text K.text (S.entries self.old) (Q.text key.now)) }
-        ensures refused { OnErr result (entry_with K.text (S.entries self.old) (Q.text key.now) ≢ None) }
-        ensures needs_node { OnErr result
-            (NeedsNode (Pointer K V PREFIX_LEN) (texts_of K.text (S.entries self.old)) (Q.text key.now)) }
-        ensures same_entries { OnErr result (S.entries self.new ≡ S.entries self.old) }
-        ensures memory { S.memory self.old self.new (Removed (Q.text key.now) (is_ok result)) }
-    {
-        let Some((_, value)) = self.remove_entry(key)? else {
-            return Ok(None);
+        let most = if self.len == usize::MAX {
+            0
+        } else if self.tree.is_none() {
+            FIRST_MOST
+        } else {
+            MOST
         };
-        Ok(Some(value))
-    }
-}
-
-impl<K: AsBytes + Drop, V: Drop, const PREFIX_LEN: usize, S> MapSeenAs<K, V, PREFIX_LEN, S>
-where
-    S: MapView<K, V, PREFIX_LEN>,
-{
-    /// Removes every entry. Takes time linear in the most entries that there were since the map was
-    /// made or last cleared, and no memory: the nodes' memory is kept for later entries.
-    ///
-    /// (from tests/art_map_tests/map/taken_entries.rt.txt)
-    /// ```rust
-    /// prices.clear();
-    /// assert!(rt; prices.is_empty());
-    /// ```
-    pub fn clear(&mut self)
-        ensures entries { S.entries self.new ≡ [] }
-        ensures memory { S.memory self.old self.new Emptied }
-    {
-        self.tree.clear();
+        match put(&mut self.head, &mut self.tree, most, key, value) {
+            Ok(Some(old)) => Ok(Some(old)),
+            Ok(None) => {
+                self.len += 1;
+                Ok(None)
+            }
+            Err(back) => Err(back),
+        }
     }
 
-    /// Puts the entries into memory in the order of their keys, in a new tree with room for just them
-    /// (for four where they are fewer), as [`ArtTree::compact`] does. So going over them in order is
-    /// fast, and spare capacity is given back: what `shrink_to_fit` of the collections of std does is
-    /// half of it. Later inserts put their entries where there is room, and find none at first.
-    ///
-    /// All memory is taken before an entry moves: for as long as the call takes, for the map twice, for
-    /// its entries once more, and some hundred bytes for each. Where memory is refused, the map is
-    /// exactly as it was. Takes time linear in the bytes of all keys together.
-    ///
-    /// A map that was filled in the order of need, and is read in the order of the keys from now on:
-    ///
-    /// (from tests/art_map_tests/map/refusals.rt.txt)
-    /// ```rust
-    /// map.compact()?;
-    /// ```
-    ///
-    /// [`ArtTree::compact`]: art_tree::ArtTree::compact
-    pub fn compact(&mut self) -> Result<(), AllocError>
-        ensures same_entries { S.entries self.new ≡ S.entries self.old }
-        ensures unchanged { OnErr result (self.new ≡ self.old) }
+    // Makes room for an entry with this key, by more memory for its page or by two pages in place of one.
+    // The entries are the same, also where memory is refused.
+    fn make_room(&mut self, key: &K) -> Result<(), AllocError>
+    where
+        K: Drop,
+        V: Drop,
+        requires { IsIndexable K.is_key K.encoded key.now }
+        ensures same { self.new ≡ self.old }
+        ensures ordered { IsOrdered K.cmp self.new }
     {
-        the_list_of_entries_changes_with_them::<K, V, PREFIX_LEN>();
-        self.tree.compact()
-    }
-    /// Moves the entries in memory into the order of their keys, so that going over them in order is
-    /// fast, as [`ArtTree::order_leaves`] does: in less time than [`compact`](Self::compact), with
-    /// inner nodes where they are and no less spare capacity.
-    ///
-    /// All memory is taken before an entry moves: for as long as the call takes, for twice as many
-    /// leaves, for the entries once more, and three words for each. Where memory is refused, the map is
-    /// exactly as it was. Takes time linear in the capacities of the map's nodes.
-    ///
-    /// (from tests/art_map_tests/map/compacting.rt.txt)
-    /// ```rust
-    /// map.order_entries()?;
-    /// ```
-    ///
-    /// [`ArtTree::order_leaves`]: art_tree::ArtTree::order_leaves
-    pub fn order_entries(&mut self) -> Result<(), AllocError>
-        ensures same_entries { S.entries self.new ≡ S.entries self.old }
-        ensures unchanged { OnErr result (self.new ≡ self.old) }
-    {
-        the_list_of_entries_changes_with_them::<K, V, PREFIX_LEN>();
-        self.tree.order_leaves()
+        make_room(&mut self.head, &mut self.tree, key, self.alloc)
     }
 }

@@ -7,17 +7,14 @@ ghost use Rattle.std.specs.Cmp.{on_equiv, and_equiv, then_agrees, on_total, then
 ghost use Rattle.std.specs.Ordering.{ordering_then, partial_ordering_then};
 ghost use Rattle.std.specs.Hash.{on_Alike, and-Alike, items_Alike};
 
+use super::Map;
 use crate::iter::Iter;
-use crate::map::ArtMap;
-use art_bytes::AsBytes;
+use art_keys::RadixKey;
 use std::cmp::Ordering;
 use std::hash::{Hash, Hasher};
 
 // Whether the entries are equal one by one, and as many.
-fn are_same<K: AsBytes + PartialEq, V: PartialEq, const PREFIX_LEN: usize>(
-    mut left: Iter<'_, K, V, PREFIX_LEN>,
-    mut right: Iter<'_, K, V, PREFIX_LEN>,
-) -> bool
+fn are_same<K: RadixKey, V: PartialEq>(mut left: Iter<'_, K, V>, mut right: Iter<'_, K, V>) -> bool
     ensures { result ≡ pointwise (λ p q. K.eq p.0 q.0 && V.eq p.1 q.1) left.entry right.entry }
 {
     'each: while let Some((key, value)) = left.next() {
@@ -48,9 +45,9 @@ fn partial_order_of_two<K: PartialOrd, V: PartialOrd>(
 }
 
 // How the entries compare: the first two that differ decide, and a map that ends before is less.
-fn partial_order_of<K: AsBytes + PartialOrd, V: PartialOrd, const PREFIX_LEN: usize>(
-    mut left: Iter<'_, K, V, PREFIX_LEN>,
-    mut right: Iter<'_, K, V, PREFIX_LEN>,
+fn partial_order_of<K: RadixKey, V: PartialOrd>(
+    mut left: Iter<'_, K, V>,
+    mut right: Iter<'_, K, V>,
 ) -> Option<Ordering>
     ensures { result ≡ slice_partial_cmp
         (λ p q. partial_ordering_then (K.partial_cmp p.0 q.0) (V.partial_cmp p.1 q.1)) left.entry right.entry }
@@ -81,10 +78,7 @@ fn order_of_two<K: Ord, V: Ord>(key: &K, value: &V, other_key: &K, other_value: 
 }
 
 // How the entries compare: the first two that differ decide, and a map that ends before is less.
-fn order_of<K: AsBytes + Ord, V: Ord, const PREFIX_LEN: usize>(
-    mut left: Iter<'_, K, V, PREFIX_LEN>,
-    mut right: Iter<'_, K, V, PREFIX_LEN>,
-) -> Ordering
+fn order_of<K: RadixKey, V: Ord>(mut left: Iter<'_, K, V>, mut right: Iter<'_, K, V>) -> Ordering
     ensures { result ≡ slice_cmp (λ p q. ordering_then (K.cmp p.0 q.0) (V.cmp p.1 q.1)) left.entry right.entry }
 {
     'each: while let Some((key, value)) = left.next() {
@@ -103,30 +97,23 @@ fn order_of<K: AsBytes + Ord, V: Ord, const PREFIX_LEN: usize>(
 }
 
 /// Equal keys and equal values, one by one. Compares the numbers of entries first.
-///
-/// (from tests/art_map_tests/map/comparing_examples.rt.txt)
-/// ```rust
-/// assert!(rt; prices == same && prices != dearer && prices < dearer);
-/// ```
-impl<K: AsBytes + PartialEq, V: PartialEq, const PREFIX_LEN: usize> PartialEq
-    for ArtMap<K, V, PREFIX_LEN> {
+impl<K: RadixKey, V: PartialEq> PartialEq for Map<K, V> {
     ghost eq = { pointwise (λ p q. K.eq p.0 q.0 && V.eq p.1 q.1) };
 
-    ghost laws = { lists_per (and_per (on_per (λ p. p.0) K.laws) (on_per (λ p. p.1) V.laws)) };
+    ghost laws = { lists_per (and_per (on_per (λ p. p.0) K.PartialEq.laws) (on_per (λ p. p.1) V.laws)) };
 
     fn eq(&self, other: &Self) -> bool {
         self.len() == other.len() && are_same(self.iter(), other.iter())
     }
 }
 
-impl<K: AsBytes + Eq, V: Eq, const PREFIX_LEN: usize> Eq for ArtMap<K, V, PREFIX_LEN> {
+impl<K: RadixKey, V: Eq> Eq for Map<K, V> {
     ghost laws = { lists_equiv (and_equiv (on_equiv (λ p. p.0) K.Eq.laws) (on_equiv (λ p. p.1) V.Eq.laws)) };
 }
 
 /// The first two entries that differ decide, by their keys and then by their values, and a map that ends
 /// before the other is less.
-impl<K: AsBytes + PartialOrd, V: PartialOrd, const PREFIX_LEN: usize> PartialOrd
-    for ArtMap<K, V, PREFIX_LEN> {
+impl<K: RadixKey, V: PartialOrd> PartialOrd for Map<K, V> {
     ghost partial_cmp = { slice_partial_cmp
         (λ p q. partial_ordering_then (K.partial_cmp p.0 q.0) (V.partial_cmp p.1 q.1)) };
 
@@ -138,7 +125,7 @@ impl<K: AsBytes + PartialOrd, V: PartialOrd, const PREFIX_LEN: usize> PartialOrd
 }
 
 /// As [`PartialOrd`].
-impl<K: AsBytes + Ord, V: Ord, const PREFIX_LEN: usize> Ord for ArtMap<K, V, PREFIX_LEN> {
+impl<K: RadixKey, V: Ord> Ord for Map<K, V> {
     ghost cmp = { slice_cmp (λ p q. ordering_then (K.cmp p.0 q.0) (V.cmp p.1 q.1)) };
 
     ghost total = { lists_total (then_total (on_total (λ p. p.0) K.total) (on_total (λ p. p.1) V.total)) };
@@ -158,10 +145,7 @@ impl<K: AsBytes + Ord, V: Ord, const PREFIX_LEN: usize> Ord for ArtMap<K, V, PRE
 }
 
 // Feeds the entries to a hasher, each key and then its value.
-fn feed<K: AsBytes + Hash, V: Hash, H: Hasher, const PREFIX_LEN: usize>(
-    mut entries: Iter<'_, K, V, PREFIX_LEN>,
-    state: &mut H,
-)
+fn feed<K: RadixKey + Hash, V: Hash, H: Hasher>(mut entries: Iter<'_, K, V>, state: &mut H)
     ensures { state.new ≡ fold H.write state.old
         (flat_map (λ p. K.hash_input p.0 ++ V.hash_input p.1) entries.entry) }
 {
@@ -172,7 +156,7 @@ fn feed<K: AsBytes + Hash, V: Hash, H: Hasher, const PREFIX_LEN: usize>(
 }
 
 /// The number of entries, and then each key and its value, in order.
-impl<K: AsBytes + Hash, V: Hash, const PREFIX_LEN: usize> Hash for ArtMap<K, V, PREFIX_LEN> {
+impl<K: RadixKey + Hash, V: Hash> Hash for Map<K, V> {
     ghost hash_input = { fed.slice (λ p. K.hash_input p.0 ++ V.hash_input p.1) };
 
     ghost respects_eq = { (items_Alike (and-Alike (on_Alike (λ p. p.0) (record { fed = K.respects_eq }))

@@ -1,149 +1,77 @@
-//! Calls that read a map: entries by key, and all of them in order.
-ghost use Rattle.std.specs.Prelude.{◌≡◌, ◌↔◌, IsTrue, length, map};
-ghost use Rattle.std.specs.Option.{option_copied, option_map, is_some};
-ghost use Rattle.art_map.specs.Entries.{entry_with};
-ghost use Rattle.art_tree.specs.Dictionary.{Clashes};
-ghost use Rattle.art_tree.specs.Refusals.{texts_of};
-ghost use Rattle.art_tree.specs.Entries.{entries_of};
-ghost use Rattle.art_map.specs.Memory.{Unchanged};
+//! Look-ups.
+ghost use Rattle.std.specs.Prelude.{◌≡◌, is_some};
+ghost use Rattle.std.specs.Option.{option_copied, option_map};
+ghost use Rattle.art_pages.specs.Entries.{IsPlaceOf, get_by, get_key_by};
+ghost use Rattle.art_map.specs.Pages.{map_entries, IsMap, IsPageOf};
+ghost use Rattle.art_map.specs.Trees.{pages_in, pages_of};
 
-use crate::iter::Iter;
-use crate::keys::{Keys, Values, keys_of, values_of};
-use crate::map::{ArtMap, MapSeenAs};
-use crate::view::MapView;
-use art_bytes::AsBytes;
-use art_tree::{ArtTree, Side};
+use super::{Map, Tree};
+use crate::spots::find_over;
+use art_index::page;
+use art_keys::{RadixKey, RadixQuery};
+use art_pages::Page;
 
-impl<K: AsBytes, V, const PREFIX_LEN: usize> ArtMap<K, V, PREFIX_LEN> {
-    /// Whether there is no entry. Takes constant time and no memory.
-    pub fn is_empty(&self) -> bool
-        ensures { IsTrue result ↔ (length self.now ≡ 0) }
+// The page where a query belongs, and its index there.
+fn seat_over<'a, K: RadixKey, V, Q: RadixQuery<K>>(
+    head: &'a Page<K, V>,
+    tree: &'a Tree<K, V>,
+    query: Q,
+) -> (&'a Page<K, V>, Result<usize, usize>)
+    requires { IsMap K.order K.is_key K.encoded head.now.entries (pages_of tree.now.arena) }
+    ensures page { IsPageOf (Q.compare query) result.0.now.entries
+        (map_entries head.now.entries (pages_of tree.now.arena)) }
+    ensures place { IsPlaceOf (Q.compare query) result.0.now.entries result.1 }
+{
+    let (leaf, place) = find_over(head, tree, query);
+    match leaf {
+        Some(leaf) => (page(tree, leaf).1, place),
+        None => (head, place),
+    }
+}
+
+// The same, where there may be no tree.
+fn seat_in<'a, K: RadixKey, V, Q: RadixQuery<K>>(
+    head: &'a Page<K, V>,
+    tree: &'a Option<Box<Tree<K, V>>>,
+    query: Q,
+) -> (&'a Page<K, V>, Result<usize, usize>)
+    requires { IsMap K.order K.is_key K.encoded head.now.entries
+        (pages_in (λ tree. pages_of tree.value.arena) tree.now) }
+    ensures page { IsPageOf (Q.compare query) result.0.now.entries
+        (map_entries head.now.entries (pages_in (λ tree. pages_of tree.value.arena) tree.now)) }
+    ensures place { IsPlaceOf (Q.compare query) result.0.now.entries result.1 }
+{
+    match tree {
+        Some(tree) => seat_over(head, tree, query),
+        None => (head, head.search(query)),
+    }
+}
+
+impl<K: RadixKey, V> Map<K, V> {
+    /// The value under the key of a query.
+    pub fn get<Q: RadixQuery<K>>(&self, key: Q) -> Option<&V>
+        ensures { option_copied result ≡ get_by (Q.compare key) self.now }
     {
-        self.len() == 0
+        let (_, value) = self.get_key_value(key)?;
+        Some(value)
     }
 
-    /// Key and value of the entry with the bytes of this key, or None where there is none. Costs as
-    /// much as [`get`](Self::get). Takes no memory.
-    pub fn get_key_value<Q: AsBytes>(&self, key: &Q) -> Option<(&K, &V)>
-        ensures { option_map (λ (key, value). (key.now, value.now)) result
-            ≡ entry_with K.text self.now (Q.text key.now) }
+    /// The key and the value under the key of a query.
+    pub fn get_key_value<Q: RadixQuery<K>>(&self, key: Q) -> Option<(&K, &V)>
+        ensures key { option_map (λ entry. entry.0.now) result ≡ get_key_by (Q.compare key) self.now }
+        ensures value { option_map (λ entry. entry.1.now) result ≡ get_by (Q.compare key) self.now }
     {
-        self.tree.get_key_value(key.as_bytes())
-    }
-
-    /// Whether this key is a proper prefix of a key of the map, or a key of the map one of it: then
-    /// [`insert`](Self::insert) refuses it with `Prefix`, if not for its length.
-    ///
-    /// Costs at most as much as a [`prefix_of`](Self::prefix_of) and a [`prefix`](Self::prefix). Takes no
-    /// memory.
-    ///
-    /// A map with `iron` and `tin`:
-    ///
-    /// (from tests/art_map_tests/map/split_maps.rt.txt)
-    /// ```rust
-    /// assert!(rt; prices.clashes(b"tint") && prices.clashes(b"ti"));
-    /// assert!(rt; !prices.clashes(b"tin") && !prices.clashes(b"zinc"));
-    /// ```
-    pub fn clashes<Q: AsBytes>(&self, key: &Q) -> bool
-        ensures { IsTrue result ↔ Clashes (texts_of K.text self.now) (Q.text key.now) }
-    {
-        self.entries_ascend();
-        let bytes = key.as_bytes();
-        match self.prefix_of(key) {
-            Some((found, _)) => found.as_bytes().len() < bytes.len(),
-            None => self.prefix(key).next().is_some(),
+        let (page, found) = seat_in(&self.head, &self.tree, key);
+        match found {
+            Ok(place) => Some(page.entry_at(place)),
+            Err(_) => None,
         }
     }
 
-    /// The entries, in ascending order of the bytes of their keys, and from the back in descending
-    /// order. Visits the nodes on the way to the first entry, twice, and to the last one, at most one
-    /// for each byte of their keys; then each entry takes constant time. Takes no memory.
-    pub fn iter(&self) -> Iter<'_, K, V, PREFIX_LEN>
-        ensures { result ≡ self.now }
-    {
-        self.between(Side::Before, &[], Side::AfterBegun, &[])
-    }
-
-    /// The keys, in ascending order of their bytes, and from the back in descending order. Costs as
-    /// much as [`iter`](Self::iter). Takes no memory.
-    ///
-    /// (from tests/art_map_tests/map/taken_entries.rt.txt)
-    /// ```rust
-    /// let mut names = prices.keys();
-    /// let Some(first) = names.next() else {
-    ///     panic!(rt; "no first key");
-    /// };
-    /// ```
-    pub fn keys(&self) -> Keys<'_, K, V, PREFIX_LEN>
-        ensures { result ≡ map (λ entry. entry.0) self.now }
-    {
-        keys_of(self.iter())
-    }
-
-    /// The values, in ascending order of the bytes of their keys, and from the back in descending
-    /// order. Costs as much as [`iter`](Self::iter). Takes no memory.
-    ///
-    /// (from tests/art_map_tests/map/taken_entries.rt.txt)
-    /// ```rust
-    /// let mut values = prices.values();
-    /// assert!(rt; values.next() == Some(&26) && values.next_back() == Some(&30));
-    /// ```
-    pub fn values(&self) -> Values<'_, K, V, PREFIX_LEN>
-        ensures { result ≡ map (λ entry. entry.1) self.now }
-    {
-        values_of(self.iter())
-    }
-}
-
-impl<K: AsBytes, V, const PREFIX_LEN: usize, S> MapSeenAs<K, V, PREFIX_LEN, S>
-where
-    S: MapView<K, V, PREFIX_LEN>,
-{
-    /// The number of entries. Takes constant time and no memory.
-    pub fn len(&self) -> usize
-        ensures { result ≡ length (S.entries self.now) }
-    {
-        self.tree.len()
-    }
-
-    /// The value of the entry with the bytes of this key, or None where there is none. A map by
-    /// `Mapped<Escaped, String>` is asked by an [`EscapedKey`](crate::EscapedKey), whose bytes are escaped
-    /// too: by `b"tin"` it finds nothing. Visits at most one node more than the key has bytes. Takes no
-    /// memory.
-    pub fn get<Q: AsBytes>(&self, key: &Q) -> Option<&V>
-        ensures { option_copied result
-            ≡ option_map (λ entry. entry.1) (entry_with K.text (S.entries self.now) (Q.text key.now)) }
-    {
-        self.tree.get(key.as_bytes())
-    }
-
-    /// Whether an entry has the bytes of this key. Costs as much as [`get`](Self::get). Takes no
-    /// memory.
-    pub fn contains_key<Q: AsBytes>(&self, key: &Q) -> bool
-        ensures { result ≡ is_some (entry_with K.text (S.entries self.now) (Q.text key.now)) }
+    /// Whether there is an entry with the key of a query.
+    pub fn contains_key<Q: RadixQuery<K>>(&self, key: Q) -> bool
+        ensures { result ≡ is_some (get_by (Q.compare key) self.now) }
     {
         self.get(key).is_some()
-    }
-
-    /// The tree that the map is over, with the arena of its nodes. The map's entries are those of the
-    /// arena.
-    pub fn tree(&self) -> &ArtTree<K, V, PREFIX_LEN>
-        ensures entries { entries_of K.text result.now.arena ≡ S.entries self.now }
-        ensures tree { S.memory self.now (S.seen result.now) Unchanged }
-    {
-        &self.tree
-    }
-}
-
-impl<'a, K: AsBytes, V, const PREFIX_LEN: usize> IntoIterator for &'a ArtMap<K, V, PREFIX_LEN> {
-    type Item = (&'a K, &'a V);
-
-    type IntoIter = Iter<'a, K, V, PREFIX_LEN>;
-
-    ghost into_iter_gives = { λ map entries. entries ≡ map.now };
-
-    /// As [`iter`](ArtMap::iter).
-    fn into_iter(self) -> Iter<'a, K, V, PREFIX_LEN> {
-        self.iter()
     }
 }

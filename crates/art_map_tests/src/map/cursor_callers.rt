@@ -2,11 +2,11 @@
 ghost use Rattle.std.specs.Prelude.{◌≡◌, ◌∷◌, ◌++◌, [], ℕ, List, OnErr, OnOk, filter, not};
 ghost use Rattle.std.specs.declared.ops.Bound.TheVariants.{Included};
 ghost use Rattle.art_tree.specs.Entries.{entries_of};
-ghost use Rattle.art_map.specs.Ranges.{is_from};
+ghost use Rattle.leaf_map.specs.Ranges.{is_from};
 
 use super::*;
-use art_map::CursorMut;
 use art_tree::{ArtTree, AsBytes};
+use leaf_map::CursorMut;
 use std::alloc::AllocError;
 use std::ops::Bound;
 

@@ -1,8 +1,8 @@
-//! How a crate uses `art_map`: a price list that is read by name and by prefix.
+//! How a crate uses `leaf_map`: a price list that is read by name and by prefix.
 ghost use Rattle.std.specs.Prelude.{◌≡◌, ◌+◌, ◌-◌, ◌^◌, IsTrue, map, min};
 ghost use Rattle.std.specs.Option.{option_map};
 ghost use Rattle.art_tree.specs.Entries.{put_entry};
-ghost use Rattle.art_map.specs.Entries.{entry_with};
+ghost use Rattle.leaf_map.specs.Entries.{entry_with};
 
 use super::*;
 use art_tree::AsBytes;

@@ -6,9 +6,9 @@ ghost use Rattle.art_tree.specs.Room.{HasEntryRoom};
 ghost use Rattle.art_tree.specs.declared.insert.InsertRefusal.TheVariants.{OutOfMemory};
 
 use super::*;
-use art_map::ArtTreeMap;
 use art_tree::laws::the_list_of_entries_changes_with_them;
 use art_tree::{AsBytes, InsertFault};
+use leaf_map::ArtTreeMap;
 use std::alloc::AllocError;
 
 /// Enters an entry. Room for it and some others suffices, and is room for the others afterwards.

@@ -1,5 +1,5 @@
 use Rattle.std.proofs.Common.{◌≡◌, None, Some, filter, refl, subst, sym}
-use Rattle.art_map.specs.Ranges.{entries_above}
+use Rattle.leaf_map.specs.Ranges.{entries_above}
 use Rattle.index.specs.Keys.{row_key_text}
 use Rattle.index.specs.Searches.{IsNextHost, is_after}
 use Rattle.index.proofs.EntryLemmas.{values_of}

@@ -3,7 +3,7 @@ use Rattle.std.specs.Fmt.{decimal}
 use Rattle.std.specs.declared.cmp.Ordering.TheVariants.{Less}
 use Rattle.art_bytes.specs.CStringKey.{c_string_key_text}
 use Rattle.art_bytes.specs.Text.{text_order}
-use Rattle.art_map.specs.Ranges.{entries_above}
+use Rattle.leaf_map.specs.Ranges.{entries_above}
 use Rattle.program_lines.specs.Lines.{line}
 use Rattle.words.specs.Places.{Counts}
 use Rattle.words.proofs.PlaceLemmas.{counts_begun, pairs_under}

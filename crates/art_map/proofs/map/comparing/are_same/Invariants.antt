@@ -1,4 +1,5 @@
-use Rattle.art_map.proofs.Names.{◌≡◌, ◌&&◌, length, pointwise}
+use Rattle.std.proofs.Common.{◌≡◌, ◌&&◌, length}
+use Rattle.std.specs.Cmp.Lexicographic.{pointwise}
 use Rattle.art_map.proofs.map.comparing.are_same.Given as goal
 
 -- what is left of both is the same where the whole is

@@ -1,4 +1,5 @@
-use Rattle.art_map.proofs.Names.{◌≡◌, ◌++◌, length, flat_map, fold}
+use Rattle.std.proofs.Common.{◌≡◌, ◌++◌, length}
+use Rattle.std.specs.List.{flat_map, fold}
 use Rattle.art_map.proofs.map.comparing.feed.Given as goal
 
 -- what is left is fed as the whole

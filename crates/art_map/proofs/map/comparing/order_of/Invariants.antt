@@ -1,4 +1,6 @@
-use Rattle.art_map.proofs.Names.{◌≡◌, length, slice_cmp, ordering_then}
+use Rattle.std.proofs.Common.{◌≡◌, length}
+use Rattle.std.specs.Cmp.Lexicographic.{slice_cmp}
+use Rattle.std.specs.Ordering.{ordering_then}
 use Rattle.art_map.proofs.map.comparing.order_of.Given as goal
 
 -- what is left of both compares as the whole

@@ -1,7 +1,7 @@
 use Rattle.std.proofs.Common.{◌∙◌, ◌++◌, ap, filter, not}
 use Rattle.std.proofs.lemmas.Result.{on_ok_weaker}
 use Rattle.std.specs.declared.ops.Bound.TheVariants.{Included}
-use Rattle.art_map.specs.Ranges.{is_from}
+use Rattle.leaf_map.specs.Ranges.{is_from}
 use Rattle.art_map_tests.proofs.map.cursor_callers.remove_first_from.Goals as goal
 
 pub returns-clause-removed : goal.returns-clause-removed

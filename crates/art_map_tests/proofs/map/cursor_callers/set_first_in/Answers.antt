@@ -1,8 +1,8 @@
 use Rattle.std.proofs.Common.{◌≡◌, ◌∙◌, Option, Some, OnSome, filter, not, rules, subst, sym}
 use Rattle.std.specs.declared.ops.Bound.TheVariants.{Included}
 use Rattle.art_tree.specs.Entries.{entries_of}
-use Rattle.art_map.specs.MapCursors.{IsAt}
-use Rattle.art_map.specs.Ranges.{is_from}
+use Rattle.leaf_map.specs.MapCursors.{IsAt}
+use Rattle.leaf_map.specs.Ranges.{is_from}
 use Rattle.art_map_tests.proofs.map.cursor_callers.set_first_in.Goals as goal
 
 on-some : {X P : Type 0} (o : Option X) (x : X) → o ≡ Some x → OnSome o P → P

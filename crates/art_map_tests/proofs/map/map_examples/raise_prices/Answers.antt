@@ -1,5 +1,5 @@
 use Rattle.std.proofs.Common.{◌+◌, ◌-◌, ◌^◌, min, rules}
-use Rattle.art_map.proofs.CallLaws.{values_same}
+use Rattle.leaf_map.proofs.CallLaws.{values_same}
 use Rattle.art_map_tests.proofs.map.map_examples.raise_prices.Goals as goal
 
 pub returns : goal.returns

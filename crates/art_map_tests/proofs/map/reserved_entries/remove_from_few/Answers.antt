@@ -2,8 +2,8 @@ use Rattle.std.proofs.Common.{ℕ, refl, Result, Ok, Err, IsOk, OnErr, arith}
 use Rattle.std.proofs.lemmas.List.{length-map}
 use Rattle.art_nodes.specs.declared.pointers.OpaqueNodePtr.{OpaqueNodePtr}
 use Rattle.art_tree.specs.Refusals.{texts_of}
-use Rattle.art_map.specs.Shrinking.{NeedsNode}
-use Rattle.art_map.proofs.CallLaws.{needs_five}
+use Rattle.leaf_map.specs.Shrinking.{NeedsNode}
+use Rattle.leaf_map.proofs.CallLaws.{needs_five}
 use Rattle.art_map_tests.proofs.map.reserved_entries.remove_from_few.Goals as goal
 
 never-err : {A E : Type 0} (r : Result A E) (P : Type 0) → (P → ⊥) → OnErr r P → IsOk r

@@ -1,6 +1,6 @@
 use Rattle.std.proofs.Common.{◌∙◌, List, ap, map, subst, sym}
 use Rattle.art_nodes.specs.declared.pointers.OpaqueNodePtr.{OpaqueNodePtr}
-use Rattle.art_map.specs.Shrinking.{NeedsNode}
+use Rattle.leaf_map.specs.Shrinking.{NeedsNode}
 use Rattle.art_routes.specs.Keys.{key_text}
 use Rattle.art_routes.specs.Networks.{Block}
 use Rattle.art_routes.specs.Tables.{without_route}

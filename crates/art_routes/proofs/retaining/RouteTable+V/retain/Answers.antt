@@ -1,8 +1,8 @@
 use Rattle.std.proofs.Common.{map, rules, subst, sym}
 use Rattle.std.specs.Map.Calls.{CallableOnEachPair, CalledAtPair, RetainsPairs, TakesPair}
 use Rattle.art_nodes.specs.declared.pointers.OpaqueNodePtr.{OpaqueNodePtr}
-use Rattle.art_map.specs.Retaining.{StopsRetaining}
-use Rattle.art_map.specs.Shrinking.{NeedsNode}
+use Rattle.leaf_map.specs.Retaining.{StopsRetaining}
+use Rattle.leaf_map.specs.Shrinking.{NeedsNode}
 use Rattle.art_routes.specs.Keys.{key_text}
 use Rattle.art_routes.specs.Networks.{Block}
 use Rattle.art_routes.proofs.ResultLemmas.{on-err, on-ok}

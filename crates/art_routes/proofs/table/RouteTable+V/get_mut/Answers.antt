@@ -1,6 +1,6 @@
 use Rattle.std.proofs.Common.{◌≡◌, ◌∙◌, OnSome, ap, refl, subst, sym}
 use Rattle.std.specs.Option.{option_copied_mut}
-use Rattle.art_map.specs.Entries.{entries_with_value}
+use Rattle.leaf_map.specs.Entries.{entries_with_value}
 use Rattle.art_routes.specs.Keys.{key_text}
 use Rattle.art_routes.proofs.RouteLemmas.{AreNetworks, value-at, with-at, with-networks}
 use Rattle.art_routes.proofs.table.RouteTable+V.get_mut.Goals as goal

@@ -1,6 +1,6 @@
 use Rattle.std.proofs.Common.{◌∙◌, map, sym, subst}
 use Rattle.art_nodes.specs.declared.pointers.OpaqueNodePtr.{OpaqueNodePtr}
-use Rattle.art_map.specs.Shrinking.{NeedsNode}
+use Rattle.leaf_map.specs.Shrinking.{NeedsNode}
 use Rattle.art_routes.specs.Keys.{key_text}
 use Rattle.art_routes.specs.Networks.{Block}
 use Rattle.art_routes.proofs.ResultLemmas.{by_result, if-ok, none_from, on-ok, on-err}
