@@ -1,5 +1,5 @@
--- A closure that is called at entries in turn, and a leaf with another value.
-use Rattle.leaf_map.proofs.Names.{◌≡◌, ◌≢◌, ◌∙◌, ℕ, Bool, true, cond, List, [], ◌∷◌, ◌++◌, map, Option, Some, None, append_assoc, refl, sym, ap, FoldsTo, CallableOnEachPair, RetainsPairs, SomeCallAtPair, map-append, opaque_pointer, LeafNode, OpaqueNodePtr, NodeArena, Changes, HeldLeaf, Nothing, held, held_leaf, spells-exchanged, stands-exchanged, leaf_at, Tree, IsAlone, CallableInTurn, ChangesInTurn, ChangesValue, TakesValue, Mut, MutBor, Bor}
+-- A leaf that is held, and one with another value.
+use Rattle.leaf_map.proofs.Names.{Changes, HeldLeaf, IsAlone, LeafNode, List, NodeArena, None, Nothing, OpaqueNodePtr, Option, Some, Tree, ap, held, held_leaf, leaf_at, opaque_pointer, refl, spells-exchanged, stands-exchanged, sym, ℕ, ◌∙◌, ◌≡◌, ◌≢◌}
 use Rattle.art_header.specs.declared.node_type.NodeType.TheVariants as kinds
 use Rattle.art_nodes.specs.Leaf.{with_value}
 
@@ -21,25 +21,3 @@ module _ {K V : Type 0} {P : ℕ} (text : K → List ℕ) (old new : NodeArena K
     spelled = spells-exchanged old new key leaf (with_value leaf value) there changes refl refl _ alone.spelled;
     no_others = λ pointer is_held. alone.no_others pointer (λ none. is_held (changes.others pointer (not-this pointer none) ∙ none));
   }
-
-module _ {F K V : Type 0} (g : Mut F (Bor K × (MutBor V × Unit {0})) (Unit {0} × (MutBor V × Unit {0}))) where
-  -- a call of a closure after which the entry stays, as a test of it
-  abbrev pub changing : F → K → V → Bool → V → F → Type 0
-  changing f key value keeps now f' = (keeps ≡ true) × ChangesValue g f key value now f'
-
-  as-calls : (entries : List (K × V)) (f f' : F) → FoldsTo (SomeCallAtPair changing) f entries f' → FoldsTo (SomeCallAtPair (λ state key value told now left. ChangesValue g state key value now left)) f entries f'
-  as-calls [] f f' same = same
-  as-calls (entry ∷ entries) f f' (state, (keeps, now, changes), folds) = (state, (keeps, now, changes.1), as-calls entries state f' folds)
-
-  pub testable : (f : F) (entries : List (K × V)) → CallableInTurn g f entries → CallableOnEachPair changing (TakesValue g) f entries
-  testable f entries callable = record { at = λ before after f' key value is folds. callable.at before after f' key value is (as-calls before f f' folds) }
-
-  pub changes-in-turn : (f : F) (old new : List (K × V)) → RetainsPairs changing f old new → ChangesInTurn g f old new
-  changes-in-turn f [] new none = none
-  changes-in-turn f (entry ∷ entries) new (keeps, value, f', rest, (stays, changes), later, is) =
-      (value, f', rest, changes, changes-in-turn f' entries rest later, is ∙ ap (λ b. cond b ((entry.0, value) ∷ rest) rest) stays)
-
--- another value changes no key
-pub keys-kept : {K V : Type 0} (front rest : List (K × V)) (entry : K × V) (value : V) → map (λ e. e.0) ((front ++ (entry.0, value) ∷ []) ++ rest) ≡ map (λ e. e.0) (front ++ entry ∷ rest)
-keys-kept front rest entry value =
-    ap (map (λ e. e.0)) (append_assoc front ((entry.0, value) ∷ []) rest) ∙ map-append (λ e. e.0) front ((entry.0, value) ∷ rest) ∙ sym (map-append (λ e. e.0) front (entry ∷ rest))

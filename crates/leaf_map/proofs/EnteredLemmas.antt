@@ -1,5 +1,5 @@
 -- The list of the entries once a key has a value, in its entry or in a new one.
-use Rattle.leaf_map.proofs.Names.{◌≡◌, ◌∙◌, ℕ, cond, List, Option, Some, None, Result, Ok, Err, IfErr, OnErr, refl, sym, ap, option_map, option_map_or, is_some, NodeArena, SameOtherEntries, entry_at, are-entries, list-put, one-list, entries_of, put_entry, set_value, entries_with_value}
+use Rattle.leaf_map.proofs.Names.{Err, IfErr, List, NodeArena, None, Ok, OnErr, Option, Result, SameOtherEntries, Some, ap, are-entries, cond, entries_of, entries_with_value, entry_at, is_some, list-put, one-list, option_map, option_map_or, put_entry, refl, set_value, sym, ℕ, ◌∙◌, ◌≡◌}
 use Rattle.leaf_map.proofs.LentLemmas.{entries-with-value}
 use Rattle.leaf_map.proofs.ListLemmas.{entries-find}
 

@@ -1,5 +1,5 @@
 -- What the leaves of a tree hold, in order.
-use Rattle.leaf_map.proofs.Names.{◌≡◌, ◌∙◌, ℕ, List, [], ◌∷◌, map, All, AllPairs, Contains, refl, sym, ap, subst, arith, Less, All-nil, All-cons, Contains-append_right, text_order, opaque_key, OpaqueNodePtr, NodeArena, held, leaf_at, Tree, leaves, leaf_place, entry_at, IsEntry, texts_of, keys_of, HoldsEntryOf, AllHold, leaf_entry, entries_under, IsAlone, IsArt, None, entries_of, empty-entry, entry-of-member, leaf-held-in, text-of-entry, are-entries, no-list, one-list, apart-there, ascend-there}
+use Rattle.leaf_map.proofs.Names.{All, All-cons, All-nil, AllHold, AllPairs, Contains, Contains-append_right, HoldsEntryOf, IsAlone, IsArt, IsEntry, Less, List, NodeArena, None, OpaqueNodePtr, Tree, [], ap, apart-there, are-entries, arith, ascend-there, empty-entry, entries_of, entries_under, entry-of-member, entry_at, held, keys_of, leaf-held-in, leaf_at, leaf_entry, leaf_place, leaves, map, no-list, one-list, opaque_key, refl, subst, sym, text-of-entry, text_order, texts_of, ℕ, ◌∙◌, ◌∷◌, ◌≡◌}
 use Rattle.leaf_map.proofs.ListLemmas.{slot-of}
 use Rattle.leaf_map.proofs.RunLemmas.{entries-cons}
 

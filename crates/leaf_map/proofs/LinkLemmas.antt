@@ -1,5 +1,5 @@
 -- The leaf before or after a side of a key, by the links.
-use Rattle.leaf_map.proofs.Names.{LeafPtr, ◌≡◌, ◌∙◌, ℕ, ◌<◌, ◌^◌, lit<, true, false, List, [], ◌∷◌, ◌++◌, Contains, Option, Some, None, refl, sym, ap, subst, inl, inr, arith, slice_get, append_assoc, option_map, All-nil, All-cons, All-append, Contains-append_right, opaque_key, opaque_pointer, slab_key, OpaqueNodePtr, NodeArena, first-member, next-member, previous-member, leaf-held-in, Spells, next_at, previous_at, Tree, leaves, First, Last, leaf_place, IsAlone, leaf_pointer, is_before, AreOn, IsNextTo, IsFirstAfter, IsLastBefore, Side, keys_of}
+use Rattle.leaf_map.proofs.Names.{All-append, All-cons, All-nil, AreOn, Contains, Contains-append_right, First, IsAlone, IsFirstAfter, IsLastBefore, IsNextTo, Last, LeafPtr, List, NodeArena, None, OpaqueNodePtr, Option, Side, Some, Spells, Tree, [], ap, append_assoc, arith, false, first-member, inl, inr, is_before, keys_of, leaf-held-in, leaf_place, leaf_pointer, leaves, lit<, next-member, next_at, opaque_key, opaque_pointer, option_map, previous-member, previous_at, refl, slab_key, slice_get, subst, sym, true, ℕ, ◌++◌, ◌<◌, ◌^◌, ◌∙◌, ◌∷◌, ◌≡◌}
 use Rattle.art_header.specs.declared.node_type.NodeType.TheVariants as kinds
 use Rattle.leaf_map.proofs.RangeLemmas.{keys-append, snoc}
 

@@ -1,5 +1,5 @@
 -- The leaves between two places in the order of texts, and what they hold.
-use Rattle.leaf_map.proofs.Names.{LeafPtr, all_left, all_right, ◌≡◌, ◌≢◌, ◌∙◌, ◌-◌, ℕ, suc, ◌⊎◌, cond, Bool, true, false, not, ◌&&◌, List, [], ◌∷◌, ◌++◌, length, map, filter, slice_get, All, Option, Some, None, refl, sym, ap, subst, inl, inr, get_or, append_assoc, append-nil, length-append, arith, option_map, map-append, same_Some, All-head, All-tail, All-append, All-weaker, filter-append, filter_map-append, leaf_key, leaf_value, opaque_key, slab_key, OpaqueNodePtr, LeafNode, NodeArena, Held, HeldLeaf, Nothing, held, AreDistinct, Spells, SpellsAfter, leaf_at, Tree, leaves, End, First, Last, IsAlone, entries_of, leaf_pointer, is_before, AreOn, is_between, IsFirstAfter, IsLastBefore, IsNearest, entry_nearest, keys_of, HoldsEntryOf, AllHold, EndsIn, LeadsOver, leaf_entry, entries_under, run_entries, Side}
+use Rattle.leaf_map.proofs.Names.{All, All-append, All-head, All-tail, All-weaker, AllHold, AreDistinct, AreOn, Bool, EndsIn, Held, HeldLeaf, HoldsEntryOf, IsAlone, IsFirstAfter, IsLastBefore, LeadsOver, LeafNode, LeafPtr, List, NodeArena, None, Nothing, OpaqueNodePtr, Option, Side, Some, Spells, SpellsAfter, Tree, [], all_left, all_right, ap, append-nil, append_assoc, cond, entries_of, entries_under, false, filter, filter-append, filter_map-append, get_or, held, inl, inr, is_before, is_between, keys_of, leaf_at, leaf_entry, leaf_key, leaf_pointer, leaves, map, map-append, not, opaque_key, option_map, refl, run_entries, slab_key, slice_get, subst, sym, true, ℕ, ◌&&◌, ◌++◌, ◌∙◌, ◌∷◌, ◌≡◌, ◌≢◌, ◌⊎◌}
 use Rattle.leaf_map.proofs.EntryLemmas.{entries-of-leaves, leaves-hold}
 use Rattle.leaf_map.proofs.RunLemmas.{distinct-front, ends-push, entries-cons, run-is, spelled-links}
 
@@ -13,16 +13,6 @@ snoc (x ∷ xs) = elim (snoc xs) [
   | inl none ↦ inr ([], x, ap (λ zs. x ∷ zs) none)
   | inr (ys, y, is) ↦ inr (x ∷ ys, y, ap (λ zs. x ∷ zs) is)
 ]
-
--- the last of a list
-abbrev pub last_one : {X : Type 0} → List X → Option X
-last_one xs = slice_get xs (length xs - 1)
-
-pub last-pushed : {X : Type 0} (xs : List X) (x : X) → last_one (xs ++ x ∷ []) ≡ Some x
-last-pushed [] x = refl
-last-pushed (y ∷ xs) x =
-    let longer : length (y ∷ xs ++ x ∷ []) - 1 ≡ suc (length (xs ++ x ∷ []) - 1) = omega (arith, length-append xs (x ∷ [])) in
-    ap (slice_get (y ∷ xs ++ x ∷ [])) longer ∙ last-pushed xs x
 
 -- of two cuts of one list, what is after the one and not before the other
 align : {X : Type 0} (Q : X → Type 0) (A B L : List X) (f : X) (R : List X) → A ++ B ≡ L ++ f ∷ R → All (λ x. Q x → ⊥) B → Q f → (rest : List X) × (A ≡ L ++ f ∷ rest) × (R ≡ rest ++ B)
@@ -111,23 +101,6 @@ module _ {K V : Type 0} {P : ℕ} (text : K → List ℕ) (arena : NodeArena K V
         let here : test (text (leaf_entry hold.0.leaf).0) ≡ false = ap test hold.0.has ∙ All-head (λ leaf. test leaf.1 ≡ false) pair pairs all in
         let rest = leave-all pairs hold.1 (All-tail (λ leaf. test leaf.1 ≡ false) pair pairs all) in
         ap kept cons ∙ ap (λ b. cond b (leaf_entry hold.0.leaf ∷ kept (held_by pairs)) (kept (held_by pairs))) here ∙ rest
-
-    -- where the test fails up to one part, and holds from it on
-    kept-right : (whole left right : List (OpaqueNodePtr K V P × List ℕ)) → whole ≡ left ++ right → AllHold text arena whole → All (λ leaf. test leaf.1 ≡ false) left → All (λ leaf. test leaf.1 ≡ true) right → kept (held_by whole) ≡ held_by right
-    kept-right whole left right is hold out inside =
-        let parts = subst (AllHold text arena) is hold in
-        ap (λ pairs. kept (held_by pairs)) is ∙ ap kept (held-append left right)
-        ∙ filter-append (λ entry. test (text entry.0)) (held_by left) (held_by right)
-        ∙ ap (λ es. es ++ kept (held_by right)) (leave-all left (hold-left left right parts) out) ∙ keep-all right (hold-right left right parts) inside
-
-    -- where it holds up to one part, and fails from it on
-    pub kept-left : (whole left right : List (OpaqueNodePtr K V P × List ℕ)) → whole ≡ left ++ right → AllHold text arena whole → All (λ leaf. test leaf.1 ≡ true) left → All (λ leaf. test leaf.1 ≡ false) right → kept (held_by whole) ≡ held_by left
-    kept-left whole left right is hold inside out =
-        let parts = subst (AllHold text arena) is hold in
-        ap (λ pairs. kept (held_by pairs)) is ∙ ap kept (held-append left right)
-        ∙ filter-append (λ entry. test (text entry.0)) (held_by left) (held_by right)
-        ∙ ap (λ es. es ++ kept (held_by right)) (keep-all left (hold-left left right parts) inside)
-        ∙ ap (λ es. held_by left ++ es) (leave-all right (hold-right left right parts) out) ∙ append-nil (held_by left)
 
   module _ (start_side : Side) (start : List ℕ) (end_side : Side) (end : List ℕ) where
     abbrev passes : K × V → Bool
@@ -266,74 +239,6 @@ module _ {K V : Type 0} {P : ℕ} {text : K → List ℕ} {arena : NodeArena K V
             of-leaves (run_entries arena (Some (front, back)))
             (range-is text arena start_side start end_side end tree (leaves-hold alone) low.1 low.2 high.1 high.2 f b low.3 low.4 low.5 high.3 high.4 high.5 alone.spelled inside
             ∙ ap (entries_under arena) (sym (run-is arena (slab_key front) (slab_key back) range-run.0 range-run.1)))
-
-module _ {K V : Type 0} {P : ℕ} {text : K → List ℕ} {arena : NodeArena K V P} {root : OpaqueNodePtr K V P} {tree : Tree (OpaqueNodePtr K V P)} (alone : IsAlone text arena root tree) (side : Side) (key : List ℕ) where
-  abbrev from-place : List (K × V) → List (K × V)
-  from-place entries = kept text arena (λ x. not (is_before side key x)) entries
-
-  turned : (before : Bool) (pairs : List (OpaqueNodePtr K V P × List ℕ)) → AreOn side key before pairs → All (λ leaf. not (is_before side key leaf.1) ≡ not before) pairs
-  turned before pairs on = All-weaker (λ leaf. is_before side key leaf.1 ≡ before) (λ leaf. not (is_before side key leaf.1) ≡ not before) (λ leaf is. ap not is) pairs on
-
-  pub none-after : IsFirstAfter side key (leaves tree) None → slice_get (from-place (entries_of text arena)) 0 ≡ None
-  none-after before =
-      ap (λ es. slice_get (from-place es) 0) (sym (entries-of-leaves alone))
-      ∙ ap (λ es. slice_get es 0) (leave-all text arena (λ x. not (is_before side key x)) (leaves tree) (leaves-hold alone) (turned true (leaves tree) before))
-
-  module _ (at : LeafPtr K V P) where
-    pub first-after : (low : IsFirstAfter side key (leaves tree) (Some (leaf_pointer at))) → slice_get (from-place (entries_of text arena)) 0 ≡ option_map leaf_entry (leaf_at arena (slab_key at))
-    first-after (x, left, right, is, before, after) =
-        let here : OpaqueNodePtr K V P × List ℕ = (leaf_pointer at, x) in
-        let holds = holds-one text arena (leaves tree) left right here is (leaves-hold alone) in
-        ap (λ es. slice_get (from-place es) 0) (sym (entries-of-leaves alone))
-        ∙ ap (λ es. slice_get es 0) (kept-right text arena (λ x. not (is_before side key x)) (leaves tree) left (here ∷ right) is (leaves-hold alone) (turned true left before) (turned false (here ∷ right) after)
-        ∙ entries-cons arena (slab_key at) (keys_of right) holds.leaf holds.at)
-        ∙ sym (ap (option_map leaf_entry) holds.at)
-
-  -- the same for what is before the place
-  abbrev to-place : List (K × V) → List (K × V)
-  to-place entries = kept text arena (is_before side key) entries
-
-  pub none-before-it : IsLastBefore side key (leaves tree) None → last_one (to-place (entries_of text arena)) ≡ None
-  none-before-it after = ap (λ es. last_one (to-place es)) (sym (entries-of-leaves alone)) ∙ ap last_one (leave-all text arena (is_before side key) (leaves tree) (leaves-hold alone) after)
-
-  module _ (at : LeafPtr K V P) where
-    pub last-before-it : (high : IsLastBefore side key (leaves tree) (Some (leaf_pointer at))) → last_one (to-place (entries_of text arena)) ≡ option_map leaf_entry (leaf_at arena (slab_key at))
-    last-before-it (x, left, right, is, before, after) =
-        let here : OpaqueNodePtr K V P × List ℕ = (leaf_pointer at, x) in
-        let holds = holds-one text arena (leaves tree) left right here is (leaves-hold alone) in
-        let parts : leaves tree ≡ (left ++ here ∷ []) ++ right = is ∙ sym (append_assoc left (here ∷ []) right) in
-        ap (λ es. last_one (to-place es)) (sym (entries-of-leaves alone))
-        ∙ ap last_one (kept-left text arena (is_before side key) (leaves tree) (left ++ here ∷ []) right parts (leaves-hold alone) before after
-        ∙ held-append text arena left (here ∷ []) ∙ ap (λ es. held_by text arena left ++ es) (entries-cons arena (slab_key at) [] holds.leaf holds.at))
-        ∙ last-pushed (held_by text arena left) (leaf_entry holds.leaf)
-        ∙ sym (ap (option_map leaf_entry) holds.at)
-
--- the nearest leaf on either side, and its entry
-module _ {K V : Type 0} {P : ℕ} {text : K → List ℕ} {arena : NodeArena K V P} {root : OpaqueNodePtr K V P} {tree : Tree (OpaqueNodePtr K V P)} (alone : IsAlone text arena root tree) (side : Side) (key : List ℕ) where
-  pub nearest-held : (end : End) (at : OpaqueNodePtr K V P) → IsNearest side key end (leaves tree) (Some at) → (x : List ℕ) × HoldsEntryOf text arena at x
-  nearest-held First at (x, left, right, is, before, after) = (x, holds-one text arena (leaves tree) left right (at, x) is (leaves-hold alone))
-  nearest-held Last at (x, left, right, is, before, after) = (x, holds-one text arena (leaves tree) left right (at, x) is (leaves-hold alone))
-
-  pub none-nearest : (end : End) → IsNearest side key end (leaves tree) None → entry_nearest text side key end (entries_of text arena) ≡ None
-  none-nearest First there = none-after alone side key there
-  none-nearest Last there = none-before-it alone side key there
-
-  pub nearest-is : (end : End) (at : LeafPtr K V P) → IsNearest side key end (leaves tree) (Some (leaf_pointer at)) → entry_nearest text side key end (entries_of text arena) ≡ option_map leaf_entry (leaf_at arena (slab_key at))
-  nearest-is First at there = first-after alone side key at there
-  nearest-is Last at there = last-before-it alone side key at there
-
--- of no entries none is nearest
-pub nearest-none : {K V : Type 0} (text : K → List ℕ) (side : Side) (key : List ℕ) (end : End) → entry_nearest {V = V} text side key end [] ≡ None
-nearest-none text side key First = refl
-nearest-none text side key Last = refl
-
--- key and value of a leaf make its entry
-pub entry-of-parts : {K V : Type 0} {P : ℕ} (o : Option (LeafNode K V P)) (key : K) (value : V) → option_map leaf_key o ≡ Some key → option_map leaf_value o ≡ Some value → Some (key, value) ≡ option_map leaf_entry o
-entry-of-parts None key value at_key at_value = absurd (cc)
-entry-of-parts (Some leaf) key value at_key at_value =
-    let same = same_Some (leaf_key leaf) key at_key in
-    let same_value = same_Some (leaf_value leaf) value at_value in
-    λ i. Some (sym same i, sym same_value i)
 
 pub something-held : {H L : Type 0} (at : Held H L) (leaf : L) → at ≡ HeldLeaf leaf → at ≢ Nothing
 something-held at leaf is none = let wrong : HeldLeaf leaf ≡ Nothing = sym is ∙ none in absurd (cc)

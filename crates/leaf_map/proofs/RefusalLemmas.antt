@@ -1,6 +1,6 @@
 -- Refusals of entries that are there.
-use Rattle.leaf_map.proofs.Names.{◌≡◌, ◌≢◌, ◌⊎◌, ◌∙◌, inl, inr, ℕ, suc, ◌<◌, ◌^◌, List, [], ◌∷◌, length, All, AllPairs, Contains, Option, Some, None, sym, subst, arith, refl, All-contains, IsPrefixOf, OneIsProperPrefix, texts_of, InsertRefusal, KeyTooLong, Prefix, OutOfMemory, IsEntryRefused, entry_with}
-use Rattle.leaf_map.proofs.CallLaws.{first_or_later, none_inside, one_has}
+use Rattle.leaf_map.proofs.Names.{All, All-contains, AllPairs, Contains, InsertRefusal, IsEntryRefused, IsPrefixOf, KeyTooLong, List, None, OneIsProperPrefix, Option, OutOfMemory, Prefix, Some, [], arith, entry_with, first_or_later, inl, inr, length, none_inside, refl, subst, suc, sym, texts_of, ℕ, ◌<◌, ◌^◌, ◌∙◌, ◌∷◌, ◌≡◌, ◌≢◌, ◌⊎◌}
+use Rattle.leaf_map.proofs.ListLemmas.{one_has}
 
 abbrev Apart : List ℕ → List ℕ → Type 0
 Apart a b = (¬ IsPrefixOf a b) × (¬ IsPrefixOf b a)

@@ -1,5 +1,5 @@
 -- Runs of linked leaves: how they are gone through, and that they end.
-use Rattle.leaf_map.proofs.Names.{LeafPtr, ◌≡◌, ◌≢◌, ◌∙◌, ℕ, zero, suc, ◌≤◌, List, [], ◌∷◌, ◌++◌, length, All, Option, Some, None, length-append, append_assoc, refl, sym, ap, subst, inl, inr, arith, slice_get, slice_index_or, option_map, option_map_or, option_and_then, cons_option, count_by-le-length, is_some, HasEach, distinct-fit, eqb_tells, get_or_append_left, none-some, same_Some, All-nil, All-cons, All-head, All-tail, All-contains, Contains-append_right, filter_map-append, next_key, previous_key, opaque_key, opaque_pointer, slab_key, LeafNode, OpaqueNodePtr, NodeArena, Changes, Held, held, held_leaf, HeldLeaf, Nothing, AreDistinct, SpellsAfter, leaf_at, next_at, End, First, Last, EndsIn, IsRun, IsTaken, LeadsOver, LinksOver, StepsOver, at_end, first_or, leaf_entry, keys_between, entries_under, run_entries, leaf_pointer}
+use Rattle.leaf_map.proofs.Names.{All, All-cons, All-contains, All-head, All-nil, All-tail, AreDistinct, Changes, Contains-append_right, End, EndsIn, First, HasEach, Held, HeldLeaf, IsRun, IsTaken, Last, LeadsOver, LeafNode, LeafPtr, LinksOver, List, NodeArena, None, Nothing, OpaqueNodePtr, Option, Some, SpellsAfter, StepsOver, [], ap, append_assoc, arith, at_end, cons_option, count_by-le-length, distinct-fit, entries_under, eqb_tells, filter_map-append, first_or, get_or_append_left, held, held_leaf, inl, inr, is_some, keys_between, leaf_at, leaf_entry, leaf_pointer, length, length-append, next_at, next_key, none-some, opaque_key, opaque_pointer, option_and_then, option_map, option_map_or, previous_key, refl, run_entries, same_Some, slab_key, slice_get, slice_index_or, subst, suc, sym, zero, ℕ, ◌++◌, ◌∙◌, ◌∷◌, ◌≡◌, ◌≢◌, ◌≤◌}
 use Rattle.art_header.specs.declared.node_type.NodeType.TheVariants as kinds
 use Rattle.leaf_map.proofs.ListLemmas.{slots-same}
 

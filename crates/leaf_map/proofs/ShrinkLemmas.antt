@@ -1,7 +1,6 @@
 -- A removal that is refused: the parent of the leaf, in the arena and in the tree of the keys.
-use Rattle.leaf_map.proofs.Names.{◌≡◌, ◌≢◌, ◌∙◌, ℕ, List, [], length, Contains, Option, Some, None, sym, ap, subst, inl, inr, Contains-append_cases, leaf_key, OpaqueNodePtr, NodeArena, Held, HeldInner, HeldLeaf, Nothing, held, StandsIn, AllStandIn, Tree, Leaf, Inner, Branches, NoBranch, Branch, branch_roots, places, branch_places, one-inner, entry-texts, IsArt, entries_of, texts_of, NeedsSmallerNode, HasLeafOf, IsFewest, NeedsNode, ShrinksWithout, SomeShrinksWithout}
+use Rattle.leaf_map.proofs.Names.{AllStandIn, Branch, Branches, Contains, Contains-append_cases, HasLeafOf, Held, HeldInner, HeldLeaf, Inner, IsArt, IsFewest, Leaf, List, NeedsNode, NeedsSmallerNode, NoBranch, NodeArena, None, Nothing, OpaqueNodePtr, Option, ShrinksWithout, Some, SomeShrinksWithout, StandsIn, Tree, [], ap, branch_places, branch_roots, entries_of, entry-texts, first_or_later, held, inl, inr, leaf_key, length, none_inside, one-inner, places, subst, sym, texts_of, ℕ, ◌∙◌, ◌≡◌, ◌≢◌}
 use Rattle.art_nodes.specs.Inner as nodes
-use Rattle.leaf_map.proofs.CallLaws.{first_or_later, none_inside}
 
 module _ {H L : Type 0} where
   one-leaf : (a b : L) (h : Held H L) → h ≡ HeldLeaf a → h ≡ HeldLeaf b → a ≡ b

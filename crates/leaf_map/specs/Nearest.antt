@@ -1,5 +1,5 @@
 -- The leaves of a tree that are nearest to a side of a key, and texts between two sides.
-use Rattle.std.specs.Prelude.{◌≡◌, ◌-◌, ℕ, Bool, true, false, not, ◌&&◌, List, [], ◌∷◌, ◌++◌, length, filter, slice_get, Option, Some, None}
+use Rattle.std.specs.Prelude.{◌≡◌, ℕ, Bool, true, false, not, ◌&&◌, List, [], ◌∷◌, ◌++◌, Option, Some, None}
 use Rattle.art_arena.specs.declared.ends.End.{End}
 use Rattle.art_arena.specs.declared.ends.End.TheVariants.{First, Last}
 use Rattle.art_tree.specs.Sides.{is_before, AreOn}
@@ -28,9 +28,3 @@ module _ {H : Type 0} (side : Side) (key : List ℕ) where
   abbrev pub IsNearest : End → List (H × List ℕ) → Option H → Type 0
   IsNearest First leaves found = IsFirstAfter leaves found
   IsNearest Last leaves found = IsLastBefore leaves found
-
--- the first entry after a side of a key, or the last before it
-abbrev pub entry_nearest : {K V : Type 0} → (K → List ℕ) → Side → List ℕ → End → List (K × V) → Option (K × V)
-entry_nearest text side key First entries = slice_get (filter (λ entry. not (is_before side key (text entry.0))) entries) 0
-entry_nearest text side key Last entries =
-    let before = filter (λ entry. is_before side key (text entry.0)) entries in slice_get before (length before - 1)

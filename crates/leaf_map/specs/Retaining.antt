@@ -1,6 +1,5 @@
 -- What a removal of some of the entries leaves where it is refused.
-use Rattle.std.specs.Prelude.{◌≡◌, ◌⊎◌, ℕ, Bool, false, cond, not, List, [], ◌∷◌, ◌++◌, filter, nat_eq}
-use Rattle.std.specs.List.{starts_with}
+use Rattle.std.specs.Prelude.{◌≡◌, ◌⊎◌, Bool, false, cond, List, [], ◌∷◌}
 
 module _ {F K V : Type 0} (T : F → K → V → Bool → V → F → Type 0) (needs_node : K → Type 0) where
   -- f was called at each entry in turn, up to one at which it returned false, whose removal needs a node: it stays, with
@@ -12,15 +11,3 @@ module _ {F K V : Type 0} (T : F → K → V → Bool → V → F → Type 0) (n
       (keeps : Bool) × (value : V) × (f' : F) × T f entry.0 entry.1 keeps value f'
       × (((keeps ≡ false) × needs_node entry.0 × (new ≡ (entry.0, value) ∷ entries))
       ⊎ ((rest : List (K × V)) × StopsRetaining f' entries rest × (new ≡ cond keeps ((entry.0, value) ∷ rest) rest)))
-
-module _ {X : Type 0} (text : X → List ℕ) (x : List ℕ) (needs_node : List ℕ → Type 0) where
-  -- of those that begin with these bytes the first are gone, up to one whose removal needs a node; it stays, as do those
-  -- behind it, and all others
-  pub record LosesFirst (old new : List X) : Type 0 where
-    pub gone : List X
-    pub refused : X
-    pub rest : List X
-    pub first : filter (λ item. starts_with nat_eq (text item) x) old ≡ gone ++ refused ∷ rest
-    pub left : filter (λ item. starts_with nat_eq (text item) x) new ≡ refused ∷ rest
-    pub needs : needs_node (text refused)
-    pub others : filter (λ item. not (starts_with nat_eq (text item) x)) new ≡ filter (λ item. not (starts_with nat_eq (text item) x)) old

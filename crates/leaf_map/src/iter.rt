@@ -1,20 +1,17 @@
 //! The entries of linked leaves in order, one by one.
-ghost use Rattle.std.specs.Prelude.{◌≡◌, Some, ⊤};
+ghost use Rattle.std.specs.Prelude.{◌≡◌, Some};
 ghost use Rattle.std.specs.Iterator.{YieldsFirstBy, YieldsLastBy, item_count};
 ghost use Rattle.leaf_map.specs.Runs.{run_entries, IsRun, IsTaken};
 
-use crate::guide::Guide;
-use crate::run_ends::{Ends, ends_without, leaf_at_end, with_expected};
+use crate::run_ends::{Ends, ends_without, leaf_at_end};
 use art_arena::{End, LeafPtr, NodeArena};
 use art_bytes::AsBytes;
-use art_nodes::OpaqueNodePtr;
-use std::alloc::AllocError;
 use std::iter::FusedIterator;
 use std::marker::{Model, PhantomData};
 
 /// An arena whose leaves, each at an `L`, make runs of entries of a `K` and a `V`. [`NodeArena`] is one.
 pub trait HasRuns<L, K, V>: Sized {
-    ghost use Rattle.std.specs.Prelude.{Option, List, ℕ};
+    ghost use Rattle.std.specs.Prelude.{Option, List};
 
     /// The entries from the leaf at the first end to the leaf at the last, both included, as the links
     /// have them.
@@ -22,21 +19,15 @@ pub trait HasRuns<L, K, V>: Sized {
 
     /// Links lead from the one to the other, if there are ends.
     ghost is_run: { Self → Option (L × L) → Type 0 };
-
-    /// How many leaves there are.
-    ghost leaf_count: { Self → ℕ };
 }
 
 impl<K, V, const PREFIX_LEN: usize> HasRuns<LeafPtr<K, V, PREFIX_LEN>, K, V>
     for NodeArena<K, V, PREFIX_LEN> {
-    ghost use Rattle.art_arena.specs.Arena.{leaf_count};
     ghost use Rattle.leaf_map.specs.Runs.{run_entries, IsRun};
 
     ghost run = { run_entries };
 
     ghost is_run = { IsRun };
-
-    ghost leaf_count = { leaf_count };
 }
 
 /// The entries of a run of linked leaves that are left, in order. Callers name it [`Iter`].
@@ -45,8 +36,6 @@ pub struct Run<'a, A: HasRuns<L, K, V>, L, K, V> {
     arena: &'a A,
     // The first leaf that is left and the last one, if any is.
     ends: Option<(L, L)>,
-    // A guess at the leaves that come next.
-    guide: Guide,
     entry: PhantomData<(K, V)>,
 }
 
@@ -96,9 +85,7 @@ impl<'a, K: AsBytes, V, const PREFIX_LEN: usize> Iterator for Iter<'a, K, V, PRE
 
     fn next(&mut self) -> Option<(&'a K, &'a V)> {
         let ends = self.ends?;
-        let expected = self.guide.next(self.arena, ends.0, End::First);
         let (key, value, rest) = take(self.arena, ends, End::First);
-        let rest = with_expected(&mut self.guide, rest, expected, End::First);
         self.ends = rest;
         Some((key, value))
     }
@@ -110,9 +97,7 @@ impl<'a, K: AsBytes, V, const PREFIX_LEN: usize> DoubleEndedIterator
 
     fn next_back(&mut self) -> Option<(&'a K, &'a V)> {
         let ends = self.ends?;
-        let expected = self.guide.next(self.arena, ends.1, End::Last);
         let (key, value, rest) = take(self.arena, ends, End::Last);
-        let rest = with_expected(&mut self.guide, rest, expected, End::Last);
         self.ends = rest;
         Some((key, value))
     }
@@ -120,26 +105,9 @@ impl<'a, K: AsBytes, V, const PREFIX_LEN: usize> DoubleEndedIterator
 
 impl<'a, K: AsBytes, V, const PREFIX_LEN: usize> FusedIterator for Iter<'a, K, V, PREFIX_LEN> {}
 
-/// Another iterator over the entries that are left. Takes no memory and never fails.
-impl<'a, K, V, const PREFIX_LEN: usize> Clone for Iter<'a, K, V, PREFIX_LEN> {
-    ghost is_clone = { λ entries copy. copy ≡ entries };
-
-    ghost is_infallible = { λ _. ⊤ };
-
-    fn clone(&self) -> Result<Iter<'a, K, V, PREFIX_LEN>, AllocError> {
-        Ok(Run {
-            arena: self.arena,
-            ends: self.ends,
-            guide: self.guide,
-            entry: PhantomData,
-        })
-    }
-}
-
 /// The run of this arena between these ends.
 pub(crate) fn run_between<'a, K, V, const PREFIX_LEN: usize>(
     arena: &'a NodeArena<K, V, PREFIX_LEN>,
-    root: Option<OpaqueNodePtr<K, V, PREFIX_LEN>>,
     ends: Option<Ends<K, V, PREFIX_LEN>>,
 ) -> Iter<'a, K, V, PREFIX_LEN>
     requires { IsRun arena.now ends }
@@ -148,7 +116,6 @@ pub(crate) fn run_between<'a, K, V, const PREFIX_LEN: usize>(
     Run {
         arena,
         ends,
-        guide: Guide::new(root, arena.leaf_count()),
         entry: PhantomData,
     }
 }

@@ -1,19 +1,18 @@
-//! The leaves, and the entry, next to a side of a key.
-ghost use Rattle.std.specs.Prelude.{◌≡◌, ◌-◌, ℕ, List, Some, filter, length, not, slice_get};
+//! The leaf next to a side of a key.
+ghost use Rattle.std.specs.Prelude.{ℕ, List};
 ghost use Rattle.std.specs.Option.{option_map};
 ghost use Rattle.art_nodes.specs.Pointers.{slab_key};
 ghost use Rattle.art_arena.specs.Links.{HoldsLeaf};
 ghost use Rattle.art_arena.specs.Trees.{leaves};
 ghost use Rattle.art_tree.specs.Art.{IsAlone};
-ghost use Rattle.art_tree.specs.Entries.{entries_of};
 ghost use Rattle.art_tree.specs.Search.{leaf_pointer};
-ghost use Rattle.art_tree.specs.Sides.{is_before, IsNextTo};
+ghost use Rattle.art_tree.specs.Sides.{IsNextTo};
 ghost use Rattle.art_tree.specs.declared.place.Side.{Side};
-ghost use Rattle.leaf_map.specs.Nearest.{IsNearest, entry_nearest};
+ghost use Rattle.leaf_map.specs.Nearest.{IsNearest};
 
 use art_arena::LeafPtr;
 use art_bytes::AsBytes;
-use art_tree::{ArtTree, End, NodeArena, Side, leaf_beside};
+use art_tree::{End, NodeArena};
 
 /// The first leaf after a side of a key, or the last before it, by the leaf beside that side, if there
 /// is one.
@@ -39,62 +38,4 @@ pub(crate) fn leaf_toward<K: AsBytes, V, const PREFIX_LEN: usize>(
             End::Last => Some(leaf),
         },
     }
-}
-
-/// The first leaf of a tree after this side of the key, or the last before it. Takes no memory.
-pub(crate) fn nearest_leaf<K: AsBytes, V, const PREFIX_LEN: usize>(
-    tree: &ArtTree<K, V, PREFIX_LEN>,
-    side: Side,
-    key: &[u8],
-    end: End,
-) -> Option<LeafPtr<K, V, PREFIX_LEN>>
-    ensures { (root whole : _) → tree.now.root ≡ Some root →
-        IsAlone K.text tree.now.arena root whole →
-        IsNearest side key.now end (leaves whole) (option_map leaf_pointer result) }
-{
-    let root = tree.root()?;
-    let arena = tree.arena();
-    let beside = leaf_beside(arena, root, key, side);
-    leaf_toward(arena, beside, end)
-}
-
-// The first entry after this side of the key, or the last before it.
-fn nearest_entry<'a, K: AsBytes, V, const PREFIX_LEN: usize>(
-    tree: &'a ArtTree<K, V, PREFIX_LEN>,
-    side: Side,
-    key: &[u8],
-    end: End,
-) -> Option<(&'a K, &'a V)>
-    ensures { option_map (λ (key, value). (key.now, value.now)) result
-        ≡ entry_nearest K.text side key.now end (entries_of K.text tree.now.arena) }
-{
-    let _root = tree.root()?;
-    let leaf = nearest_leaf(tree, side, key, end)?;
-    Some(tree.arena().as_key_value_ref(leaf))
-}
-
-/// The first entry after this side of the key, or None where all are before it. Takes no memory.
-pub(crate) fn first_entry_after<'a, K: AsBytes, V, const PREFIX_LEN: usize>(
-    tree: &'a ArtTree<K, V, PREFIX_LEN>,
-    side: Side,
-    key: &[u8],
-) -> Option<(&'a K, &'a V)>
-    ensures { option_map (λ (key, value). (key.now, value.now)) result ≡ slice_get
-        (filter (λ entry. not (is_before side key.now (K.text entry.0))) (entries_of K.text tree.now.arena)) 0 }
-{
-    nearest_entry(tree, side, key, End::First)
-}
-
-/// The last entry before this side of the key, or None where all are after it. Takes no memory.
-pub(crate) fn last_entry_before<'a, K: AsBytes, V, const PREFIX_LEN: usize>(
-    tree: &'a ArtTree<K, V, PREFIX_LEN>,
-    side: Side,
-    key: &[u8],
-) -> Option<(&'a K, &'a V)>
-    ensures { let before = filter (λ entry. is_before side key.now (K.text entry.0))
-        (entries_of K.text tree.now.arena) in
-        option_map (λ (key, value). (key.now, value.now)) result
-        ≡ slice_get before (length before - 1) }
-{
-    nearest_entry(tree, side, key, End::Last)
 }

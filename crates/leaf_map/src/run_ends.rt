@@ -4,9 +4,8 @@ ghost use Rattle.art_nodes.specs.Pointers.{slab_key};
 ghost use Rattle.art_arena.specs.Links.{leaf_at};
 ghost use Rattle.leaf_map.specs.Runs.{at_end, IsRun, StepsOver};
 
-use crate::guide::Guide;
 use art_arena::{End, LeafPtr};
-use art_nodes::{LeafNode, NodePtr};
+use art_nodes::LeafNode;
 
 /// The first leaf of a run, and the last one.
 pub(crate) type Ends<K, V, const PREFIX_LEN: usize> = (
@@ -52,30 +51,5 @@ pub(crate) fn ends_without<K, V, const PREFIX_LEN: usize>(
             Some(previous) => Some((front, previous)),
             None => None,
         },
-    }
-}
-
-/// The same ends. Where the leaf that was expected is the one at this end, it is what is returned: so
-/// the processor goes on to it before the link that names it has come from memory.
-#[inline(always)]
-pub(crate) fn with_expected<K, V, const PREFIX_LEN: usize>(
-    guide: &mut Guide,
-    ends: Option<Ends<K, V, PREFIX_LEN>>,
-    expected: Option<usize>,
-    end: End,
-) -> Option<Ends<K, V, PREFIX_LEN>>
-    ensures { result ≡ ends }
-{
-    let (Some((front, back)), Some(key)) = (ends, expected) else {
-        return ends;
-    };
-    let expected = NodePtr::from_key(key);
-    match end {
-        End::First if expected == front => Some((expected, back)),
-        End::Last if expected == back => Some((front, expected)),
-        _ => {
-            guide.lose_way();
-            ends
-        }
     }
 }

@@ -3,40 +3,25 @@ ghost use Rattle.std.specs.Prelude.{◌≡◌, ◌<◌, ◌^◌, ℕ, List, All,
 ghost use Rattle.std.specs.declared.cmp.Ordering.TheVariants.{Less};
 ghost use Rattle.art_bytes.specs.Text.{IsPrefixOf, text_order};
 ghost use Rattle.art_nodes.specs.declared.pointers.OpaqueNodePtr.{OpaqueNodePtr as Pointer};
-ghost use Rattle.art_tree.specs.Dictionary.{Clashes};
 ghost use Rattle.art_tree.specs.Entries.{entries_of};
 ghost use Rattle.art_tree.specs.Refusals.{texts_of};
 ghost use Rattle.art_tree.specs.Removal.{NeedsSmallerNode};
 ghost use Rattle.leaf_map.specs.Shrinking.{NeedsNode};
 
-use crate::map::{ArtMap, MapSeenAs};
-use crate::view::MapView;
-use art_bytes::{AsBytes, NoPrefixesBytes};
+use crate::map::ArtMap;
+use art_bytes::AsBytes;
 use art_tree::ArtTree;
 
-impl<K: AsBytes, V, const PREFIX_LEN: usize, S> MapSeenAs<K, V, PREFIX_LEN, S>
-where
-    S: MapView<K, V, PREFIX_LEN>,
-{
+impl<K: AsBytes, V, const PREFIX_LEN: usize> ArtMap<K, V, PREFIX_LEN> {
     /// The entries ascend strictly by the bytes of their keys, so no two have the same bytes. No key
     /// is a prefix of another, each has fewer than 2^32 bytes, and the laws of keys hold for each. Does
     /// no work.
     pub fn entries_ascend(&self)
-        ensures ascending { AllPairs (λ a b. text_order a b ≡ Less) (texts_of K.text (S.entries self.now)) }
+        ensures ascending { AllPairs (λ a b. text_order a b ≡ Less) (texts_of K.text self.now) }
         ensures no_prefixes { AllPairs (λ a b. (¬ IsPrefixOf a b) × (¬ IsPrefixOf b a))
-            (texts_of K.text (S.entries self.now)) }
-        ensures short { All (λ x. length x < 2 ^ 32) (texts_of K.text (S.entries self.now)) }
-        ensures keys { All (λ entry. K.is_key entry.0) (S.entries self.now) }
-    {
-        let _arena = self.tree.arena();
-    }
-}
-
-impl<K: NoPrefixesBytes, V, const PREFIX_LEN: usize> ArtMap<K, V, PREFIX_LEN> {
-    /// No key of a type without prefixes clashes with a key of the map, so no insert refuses one with
-    /// `Prefix`. Does no work.
-    pub fn keys_never_clash(&self)
-        ensures { (key : K) → K.is_key key → ¬ Clashes (texts_of K.text self.now) (K.text key) }
+            (texts_of K.text self.now) }
+        ensures short { All (λ x. length x < 2 ^ 32) (texts_of K.text self.now) }
+        ensures keys { All (λ entry. K.is_key entry.0) self.now }
     {
         let _arena = self.tree.arena();
     }

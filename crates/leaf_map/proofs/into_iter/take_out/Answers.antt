@@ -1,5 +1,4 @@
-use Rattle.leaf_map.proofs.Names.{◌≡◌, ◌≢◌, ◌∙◌, Some, ap, sym, subst, slab_key, Nothing, held, leaf_at, leaf_pointer, IsTaken, at_end, run_entries}
-use Rattle.leaf_map.proofs.LeafCounts.{one-leaf-fewer}
+use Rattle.leaf_map.proofs.Names.{IsTaken, Nothing, Some, ap, at_end, held, leaf_at, leaf_pointer, run_entries, slab_key, subst, sym, ◌∙◌, ◌≡◌, ◌≢◌}
 use Rattle.leaf_map.proofs.LinkLemmas.{leaf-pointer-fits}
 use Rattle.leaf_map.proofs.ListLemmas.{slot-of}
 use Rattle.leaf_map.proofs.RunLemmas.{end-held, others-stay}
@@ -24,5 +23,4 @@ returns g c =
       taken =
           subst (λ entry. IsTaken c.args.end (run_entries old (Some c.args.ends)) entry (run_entries new c.ends_without-rest.result)) (λ i. (sym c.into_entry.ensures.key i, sym c.into_entry.ensures.value i)) taken;
       rest = rest;
-      fewer = one-leaf-fewer old new at c.deallocate_node_ptr-leaf.ensures.removed leaf there;
     }

@@ -1,4 +1,4 @@
-use Rattle.leaf_map.proofs.Names.{◌≡◌, ◌≢◌, ◌∙◌, Some, ap, refl, sym, subst, slab_key, Nothing, held, leaf_at, leaf_pointer, IsTaken, at_end, run_entries}
+use Rattle.leaf_map.proofs.Names.{IsTaken, Nothing, Some, ap, at_end, held, leaf_at, leaf_pointer, refl, run_entries, slab_key, subst, sym, ◌∙◌, ◌≡◌, ◌≢◌}
 use Rattle.leaf_map.proofs.LinkLemmas.{leaf-pointer-fits}
 use Rattle.leaf_map.proofs.ListLemmas.{slot-of}
 use Rattle.leaf_map.proofs.RunLemmas.{end-held}

@@ -1,4 +1,4 @@
-use Rattle.leaf_map.proofs.Names.{◌≡◌, ◌∙◌, Some, sym, ap, subst, option_and_then, option_map, next_key, previous_key, slab_key, leaf_at, next_at, previous_at, leaves, leaf_pointer, First, Last, IsNearest, IsNextTo}
+use Rattle.leaf_map.proofs.Names.{First, IsNearest, IsNextTo, Last, Some, ap, leaf_at, leaf_pointer, leaves, next_at, next_key, option_and_then, option_map, previous_at, previous_key, slab_key, subst, sym, ◌∙◌, ◌≡◌}
 use Rattle.leaf_map.proofs.ListLemmas.{slot-of}
 use Rattle.leaf_map.proofs.LinkLemmas.{after-last, as-pointers, before-first, first-itself, last-itself}
 use Rattle.leaf_map.proofs.nearest.leaf_toward.Goals as goal

@@ -1,4 +1,4 @@
-use Rattle.leaf_map.proofs.Names.{◌≢◌, ◌∙◌, filter, sym, ap, subst, option_map, OpaqueNodePtr, Nothing, held, Tree, leaves, IsAlone, IsArt, leaf_pointer, is_before, is_between, IsFirstAfter, IsLastBefore, run_entries}
+use Rattle.leaf_map.proofs.Names.{IsAlone, IsArt, IsFirstAfter, IsLastBefore, Nothing, OpaqueNodePtr, Tree, ap, filter, held, is_before, is_between, leaf_pointer, leaves, option_map, run_entries, subst, sym, ◌∙◌, ◌≢◌}
 use Rattle.leaf_map.proofs.EntryLemmas.{no-entries}
 use Rattle.leaf_map.proofs.LinkLemmas.{leaf-pointer-fits}
 use Rattle.leaf_map.proofs.RangeLemmas.{front-held, front-text, range-apart, range-high, range-low, range-run, range-some, something-held}

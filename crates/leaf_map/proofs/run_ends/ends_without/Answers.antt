@@ -1,4 +1,4 @@
-use Rattle.leaf_map.proofs.Names.{◌≡◌, ◌∙◌, None, Some, ap, subst, sym, option_map, slab_key, leaf_at, StepsOver, at_end}
+use Rattle.leaf_map.proofs.Names.{None, Some, StepsOver, ap, at_end, leaf_at, option_map, slab_key, subst, sym, ◌∙◌, ◌≡◌}
 use Rattle.leaf_map.proofs.RunLemmas.{step-first, step-last, step-only}
 use Rattle.leaf_map.proofs.run_ends.ends_without.Goals as goal
 

@@ -1,4 +1,4 @@
-use Rattle.leaf_map.proofs.Names.{◌∙◌, ap, sym, is_le, is_lt, text_order, is_up_to}
+use Rattle.leaf_map.proofs.Names.{ap, is_le, is_lt, is_up_to, sym, text_order, ◌∙◌}
 use Rattle.leaf_map.proofs.TextLemmas.{all-before}
 use Rattle.leaf_map.proofs.map.ranges.end_of.Goals as goal
 

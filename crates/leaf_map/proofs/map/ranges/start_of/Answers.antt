@@ -1,4 +1,4 @@
-use Rattle.leaf_map.proofs.Names.{◌∙◌, not, ap, sym, is_le, is_lt, text_order, is_from}
+use Rattle.leaf_map.proofs.Names.{ap, is_from, is_le, is_lt, not, sym, text_order, ◌∙◌}
 use Rattle.leaf_map.proofs.TextLemmas.{none-before, not-le, not-lt}
 use Rattle.leaf_map.proofs.map.ranges.start_of.Goals as goal
 

@@ -1,4 +1,4 @@
-use Rattle.leaf_map.proofs.Names.{◌∙◌, ◌&&◌, is_from, is_up_to, filter_agree}
+use Rattle.leaf_map.proofs.Names.{filter_agree, is_from, is_up_to, ◌&&◌, ◌∙◌}
 use Rattle.leaf_map.proofs.map.ranges.ArtMap+K+V+PREFIX_LEN.range.Goals as goal
 
 pub returns : goal.returns

@@ -1,4 +1,4 @@
-use Rattle.std.proofs.Common.{◌∙◌}
+use Rattle.leaf_map.proofs.Names.{◌∙◌}
 use Rattle.leaf_map.proofs.TextLemmas.{all-between, filter-all}
 use Rattle.leaf_map.proofs.map.reading.ArtMap+K+V+PREFIX_LEN.iter.Goals as goal
 
