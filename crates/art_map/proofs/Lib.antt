@@ -24,6 +24,7 @@ pub mod WalkLemmas
 pub mod CalledLemmas
 pub mod KeyBoundLemmas
 pub mod InsideLemmas
+pub mod SplitLemmas
 pub mod SwapLemmas
 pub mod JoinLemmas
 pub mod CursorLemmas

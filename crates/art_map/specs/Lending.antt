@@ -10,12 +10,12 @@ use Rattle.art_index.specs.contracts.anchor.Anchor as anchor
 use Rattle.art_pages.specs.contracts.page.Page as page
 use Rattle.art_tree.specs.TreeLending.{tree_row}
 use Rattle.art_map.specs.Trees.{pages_of}
-use Rattle.art_map.specs.contracts.map.MapOver.{the_row}
+use Rattle.art_map.specs.contracts.map.Map.{the_row}
 
 -- the type of a map, as the logic names it
 abbrev pub map_row : (K V : RattleType) → Ghosts K.Denot → RattleType
 map_row K V members =
-    the_row (tree_row (anchor.the_row) (page.the_row K V members) (number 16) (λ anchor. anchor) (λ _. ⊤)) K V (record { pages = λ tree. pages_of tree.arena }) members
+    the_row K V members
 
 module _ (K V : RattleType) (members : Ghosts K.Denot) (map : MutBor (List (K.Denot × V.Denot))) where
   -- a map ends with the value that was left behind the reference, in the entry of the query, or unchanged

@@ -3,25 +3,26 @@ ghost use Rattle.std.specs.Prelude.{◌≡◌, ◌-◌, ◌∷◌, ◌++◌, [],
 ghost use Rattle.std.specs.Option.{option_map};
 ghost use Rattle.art_map.specs.Cursors.{AreSides, gap_sides};
 
-use crate::iter::{EntriesOf, HasPages, Iter};
-use crate::map::{HoldsPages, Leaf, Map, MapOver, Tree};
+use crate::iter::Iter;
+use crate::map::Map;
 use art_keys::{KeyBytes, RadixKey};
 use std::alloc::AllocError;
 use std::marker::Model;
 use std::ops::Bound;
 
-/// A gap between two entries of a map, or before the first, or after the last. Callers name it [`Cursor`].
+/// A cursor of a map, which stands in a gap: between two entries, before the first, or after the last.
+/// Contracts see the list of the entries before the gap and that of those after it, both in ascending
+/// order of their keys.
 #[derive(Drop)]
-pub struct CursorOver<'a, T: HoldsPages<K, V> + HasPages<L, K, V>, L, K: KeyBytes, V> {
-    map: &'a MapOver<T, K, V>,
+pub struct Cursor<'a, K: KeyBytes, V> {
+    map: &'a Map<K, V>,
     // The entries on one side of the gap. Those on the other side are sought when they are asked for.
-    entries: EntriesOf<'a, T, L, K, V>,
+    entries: Iter<'a, K, V>,
     // Whether they are those after the gap.
     are_after: bool,
 }
 
-impl<'a, T: HoldsPages<K, V> + HasPages<L, K, V>, L, K: KeyBytes, V> Model
-    for CursorOver<'a, T, L, K, V> {
+impl<'a, K: KeyBytes, V> Model for Cursor<'a, K, V> {
     ghost use Rattle.std.specs.Prelude.{List};
     ghost use Rattle.art_map.specs.Cursors.{AreSides, gap_sides};
 
@@ -33,11 +34,6 @@ impl<'a, T: HoldsPages<K, V> + HasPages<L, K, V>, L, K: KeyBytes, V> Model
         (gap_sides cursor.map.now cursor.are_after cursor.entries) };
 }
 
-/// A cursor of a map, which stands in a gap: between two entries, before the first, or after the last.
-/// Contracts see the list of the entries before the gap and that of those after it, both in ascending
-/// order of their keys.
-pub type Cursor<'a, K, V> = CursorOver<'a, Tree<K, V>, Leaf<K, V>, K, V>;
-
 /// The gap of a map after or before these entries.
 pub(crate) fn cursor_at<'a, K: KeyBytes, V>(
     map: &'a Map<K, V>,
@@ -47,7 +43,7 @@ pub(crate) fn cursor_at<'a, K: KeyBytes, V>(
     requires { AreSides map.now (gap_sides map.now are_after entries) }
     ensures { result ≡ gap_sides map.now are_after entries.entry }
 {
-    CursorOver {
+    Cursor {
         map,
         entries,
         are_after,
@@ -173,7 +169,7 @@ impl<'a, K: KeyBytes, V> Clone for Cursor<'a, K, V> {
     ghost is_infallible = { λ _. ⊤ };
 
     fn clone(&self) -> Result<Cursor<'a, K, V>, AllocError> {
-        Ok(CursorOver {
+        Ok(Cursor {
             map: self.map,
             entries: same_entries(&self.entries),
             are_after: self.are_after,

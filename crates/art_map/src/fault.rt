@@ -1,6 +1,8 @@
 //! Refusals, what they print, and the errors that they become.
 ghost use Rattle.std.specs.Prelude.{◌≡◌};
 
+use crate::map::Map;
+use art_keys::KeyBytes;
 use std::alloc::AllocError;
 use std::error::Error;
 use std::fmt;
@@ -32,6 +34,15 @@ pub struct ExtendFault<K, V, I> {
     pub refused: InsertFault<K, V>,
     /// The iterator, which yields the entries behind it.
     pub rest: I,
+}
+
+/// The entry at which [`split_off`](crate::Map::split_off) stopped, and those that were moved before.
+#[derive(Drop)]
+pub struct SplitFault<K: KeyBytes, V> {
+    /// The entry that had no room.
+    pub refused: InsertFault<K, V>,
+    /// The entries behind it.
+    pub moved: Map<K, V>,
 }
 
 impl fmt::Display for InsertRefusal {
@@ -75,6 +86,13 @@ impl<K: Drop, V: Drop> From<InsertFault<K, V>> for InsertRefusal {
 /// An entry is refused for memory, or for an encoding of 2^32 bytes or more. Key and value are dropped.
 impl<K: Drop, V: Drop> From<InsertFault<K, V>> for AllocError {
     fn from(_fault: InsertFault<K, V>) -> AllocError {
+        AllocError
+    }
+}
+
+/// Memory was refused. The entries that did not stay in the map are dropped.
+impl<K: KeyBytes + Drop, V: Drop> From<SplitFault<K, V>> for AllocError {
+    fn from(_fault: SplitFault<K, V>) -> AllocError {
         AllocError
     }
 }

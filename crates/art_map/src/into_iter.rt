@@ -2,21 +2,23 @@
 ghost use Rattle.std.specs.Prelude.{◌≡◌, ◌+◌, ◌^◌, ◌<◌, ◌++◌, length, map};
 ghost use Rattle.std.specs.Iterator.{YieldsFirst, YieldsLast, item_count};
 
-use crate::map::{HoldsPages, Map, MapOver, Tree};
+use crate::map::Map;
 use art_keys::{KeyBytes, RadixKey};
 use std::iter::FusedIterator;
 use std::marker::Model;
 use std::vec;
 
-/// The entries of a map that are left, with the pages that hold them. Callers name it [`IntoIter`].
+/// The entries of a map that was taken apart, in ascending order of their keys, and from the back in
+/// descending order. Contracts see the list of those that are left. What is left is freed when the
+/// iterator is dropped.
 #[derive(Drop)]
-pub struct TakenEntries<T: HoldsPages<K, V>, K: KeyBytes, V> {
+pub struct IntoIter<K: KeyBytes, V> {
     // What is left of the page that was taken out last.
     first: vec::IntoIter<(K, V)>,
-    rest: MapOver<T, K, V>,
+    rest: Map<K, V>,
 }
 
-impl<T: HoldsPages<K, V>, K: KeyBytes, V> Model for TakenEntries<T, K, V> {
+impl<K: KeyBytes, V> Model for IntoIter<K, V> {
     ghost use Rattle.std.specs.Prelude.{◌^◌, ◌<◌, ◌++◌, List, length};
     ghost use Rattle.std.specs.Vec.Iter.{into_iter_items};
 
@@ -26,11 +28,6 @@ impl<T: HoldsPages<K, V>, K: KeyBytes, V> Model for TakenEntries<T, K, V> {
 
     ghost invariant = { λ it. length (into_iter_items it.first ++ it.rest) < 2 ^ 64 };
 }
-
-/// The entries of a map that was taken apart, in ascending order of their keys, and from the back in
-/// descending order. Contracts see the list of those that are left. What is left is freed when the
-/// iterator is dropped.
-pub type IntoIter<K, V> = TakenEntries<Tree<K, V>, K, V>;
 
 impl<K: RadixKey + Drop, V: Drop> Iterator for IntoIter<K, V> {
     type Item = (K, V);
@@ -72,23 +69,20 @@ impl<K: RadixKey + Drop, V: Drop> ExactSizeIterator for IntoIter<K, V> {
     }
 }
 
-/// The keys of the entries that are left. Callers name it [`IntoKeys`].
+/// The keys of a map that was taken apart, in ascending order, and from the back in descending order.
+/// Contracts see the list of those that are left.
 #[derive(Drop)]
-pub struct TakenKeys<T: HoldsPages<K, V>, K: KeyBytes, V> {
-    entries: TakenEntries<T, K, V>,
+pub struct IntoKeys<K: KeyBytes, V> {
+    entries: IntoIter<K, V>,
 }
 
-impl<T: HoldsPages<K, V>, K: KeyBytes, V> Model for TakenKeys<T, K, V> {
+impl<K: KeyBytes, V> Model for IntoKeys<K, V> {
     ghost use Rattle.std.specs.Prelude.{List, map};
 
     ghost Value = { List K };
 
     ghost view = { λ keys. map (λ entry. entry.0) keys.entries };
 }
-
-/// The keys of a map that was taken apart, in ascending order, and from the back in descending order.
-/// Contracts see the list of those that are left.
-pub type IntoKeys<K, V> = TakenKeys<Tree<K, V>, K, V>;
 
 impl<K: RadixKey + Drop, V: Drop> Iterator for IntoKeys<K, V> {
     type Item = K;
@@ -129,23 +123,20 @@ impl<K: RadixKey + Drop, V: Drop> ExactSizeIterator for IntoKeys<K, V> {
     }
 }
 
-/// The values of the entries that are left. Callers name it [`IntoValues`].
+/// The values of a map that was taken apart, in ascending order of their keys, and from the back in
+/// descending order. Contracts see the list of those that are left.
 #[derive(Drop)]
-pub struct TakenValues<T: HoldsPages<K, V>, K: KeyBytes, V> {
-    entries: TakenEntries<T, K, V>,
+pub struct IntoValues<K: KeyBytes, V> {
+    entries: IntoIter<K, V>,
 }
 
-impl<T: HoldsPages<K, V>, K: KeyBytes, V> Model for TakenValues<T, K, V> {
+impl<K: KeyBytes, V> Model for IntoValues<K, V> {
     ghost use Rattle.std.specs.Prelude.{List, map};
 
     ghost Value = { List V };
 
     ghost view = { λ values. map (λ entry. entry.1) values.entries };
 }
-
-/// The values of a map that was taken apart, in ascending order of their keys, and from the back in
-/// descending order. Contracts see the list of those that are left.
-pub type IntoValues<K, V> = TakenValues<Tree<K, V>, K, V>;
 
 impl<K: RadixKey + Drop, V: Drop> Iterator for IntoValues<K, V> {
     type Item = V;
@@ -191,7 +182,7 @@ pub(crate) fn entries_taken<K: KeyBytes, V>(first: Vec<(K, V)>, rest: Map<K, V>)
     requires { length (first.items ++ rest) < 2 ^ 64 }
     ensures { result ≡ first.items ++ rest }
 {
-    TakenEntries {
+    IntoIter {
         first: first.into_iter(),
         rest,
     }
@@ -201,12 +192,12 @@ pub(crate) fn entries_taken<K: KeyBytes, V>(first: Vec<(K, V)>, rest: Map<K, V>)
 pub(crate) fn keys_taken<K: KeyBytes, V>(entries: IntoIter<K, V>) -> IntoKeys<K, V>
     ensures { result ≡ map (λ entry. entry.0) entries }
 {
-    TakenKeys { entries }
+    IntoKeys { entries }
 }
 
 /// The values of these entries.
 pub(crate) fn values_taken<K: KeyBytes, V>(entries: IntoIter<K, V>) -> IntoValues<K, V>
     ensures { result ≡ map (λ entry. entry.1) entries }
 {
-    TakenValues { entries }
+    IntoValues { entries }
 }

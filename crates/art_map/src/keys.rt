@@ -2,29 +2,25 @@
 ghost use Rattle.std.specs.Prelude.{◌≡◌, map, ⊤};
 ghost use Rattle.std.specs.Iterator.{YieldsFirstBy, YieldsLastBy, item_count};
 
-use crate::iter::{EntriesOf, HasPages, Iter};
-use crate::map::{Leaf, Tree};
+use crate::iter::Iter;
 use art_keys::{KeyBytes, RadixKey};
 use std::alloc::AllocError;
 use std::iter::FusedIterator;
 use std::marker::Model;
 
-/// The keys of the entries that are left. Callers name it [`Keys`].
+/// The keys of a map, in ascending order. Contracts see the list of those that are left.
 #[derive(Drop)]
-pub struct KeysOf<'a, T: HasPages<L, K, V>, L, K, V> {
-    entries: EntriesOf<'a, T, L, K, V>,
+pub struct Keys<'a, K: KeyBytes, V> {
+    entries: Iter<'a, K, V>,
 }
 
-impl<'a, T: HasPages<L, K, V>, L, K, V> Model for KeysOf<'a, T, L, K, V> {
+impl<'a, K: KeyBytes, V> Model for Keys<'a, K, V> {
     ghost use Rattle.std.specs.Prelude.{List, map};
 
     ghost Value = { List K };
 
     ghost view = { λ keys. map (λ entry. entry.0) keys.entries };
 }
-
-/// The keys of a map, in ascending order. Contracts see the list of those that are left.
-pub type Keys<'a, K, V> = KeysOf<'a, Tree<K, V>, Leaf<K, V>, K, V>;
 
 impl<'a, K: RadixKey, V> Iterator for Keys<'a, K, V> {
     type Item = &'a K;
@@ -67,27 +63,24 @@ impl<'a, K: KeyBytes, V> Clone for Keys<'a, K, V> {
 
     fn clone(&self) -> Result<Keys<'a, K, V>, AllocError> {
         let entries = self.entries.clone()?;
-        Ok(KeysOf { entries })
+        Ok(Keys { entries })
     }
 }
 
-/// The values of the entries that are left. Callers name it [`Values`].
+/// The values of a map, in ascending order of their keys. Contracts see the list of
+/// those that are left.
 #[derive(Drop)]
-pub struct ValuesOf<'a, T: HasPages<L, K, V>, L, K, V> {
-    entries: EntriesOf<'a, T, L, K, V>,
+pub struct Values<'a, K: KeyBytes, V> {
+    entries: Iter<'a, K, V>,
 }
 
-impl<'a, T: HasPages<L, K, V>, L, K, V> Model for ValuesOf<'a, T, L, K, V> {
+impl<'a, K: KeyBytes, V> Model for Values<'a, K, V> {
     ghost use Rattle.std.specs.Prelude.{List, map};
 
     ghost Value = { List V };
 
     ghost view = { λ values. map (λ entry. entry.1) values.entries };
 }
-
-/// The values of a map, in ascending order of their keys. Contracts see the list of
-/// those that are left.
-pub type Values<'a, K, V> = ValuesOf<'a, Tree<K, V>, Leaf<K, V>, K, V>;
 
 impl<'a, K: RadixKey, V> Iterator for Values<'a, K, V> {
     type Item = &'a V;
@@ -130,7 +123,7 @@ impl<'a, K: KeyBytes, V> Clone for Values<'a, K, V> {
 
     fn clone(&self) -> Result<Values<'a, K, V>, AllocError> {
         let entries = self.entries.clone()?;
-        Ok(ValuesOf { entries })
+        Ok(Values { entries })
     }
 }
 
@@ -138,12 +131,12 @@ impl<'a, K: KeyBytes, V> Clone for Values<'a, K, V> {
 pub(crate) fn keys_of<'a, K: KeyBytes, V>(entries: Iter<'a, K, V>) -> Keys<'a, K, V>
     ensures { result ≡ map (λ entry. entry.0) entries.entry }
 {
-    KeysOf { entries }
+    Keys { entries }
 }
 
 /// The values of these entries.
 pub(crate) fn values_of<'a, K: KeyBytes, V>(entries: Iter<'a, K, V>) -> Values<'a, K, V>
     ensures { result ≡ map (λ entry. entry.1) entries.entry }
 {
-    ValuesOf { entries }
+    Values { entries }
 }

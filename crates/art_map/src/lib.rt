@@ -21,10 +21,10 @@ mod take;
 mod walk;
 mod within;
 
-pub use cursor::{Cursor, CursorOver};
+pub use cursor::Cursor;
 pub use entry::{Entry, EntryOver, OccupiedEntry, OccupiedOver, VacantEntry, VacantOver};
-pub use fault::{ExtendFault, InsertFault, InsertRefusal};
-pub use into_iter::{IntoIter, IntoKeys, IntoValues, TakenEntries, TakenKeys, TakenValues};
-pub use iter::{EntriesOf, HasPages, Iter};
-pub use keys::{Keys, KeysOf, Values, ValuesOf};
-pub use map::{HoldsPages, Leaf, Map, MapOver, Tree};
+pub use fault::{ExtendFault, InsertFault, InsertRefusal, SplitFault};
+pub use into_iter::{IntoIter, IntoKeys, IntoValues};
+pub use iter::Iter;
+pub use keys::{Keys, Values};
+pub use map::{Leaf, Map, Tree};

@@ -13,6 +13,7 @@ mod ranges;
 mod reading;
 mod removals;
 mod retaining;
+mod splitting;
 
 use art_arena::LeafPtr;
 use art_index::Anchor;
@@ -28,59 +29,42 @@ pub(crate) const MOST: usize = 63;
 /// How many entries the first page has, at most, where there is no tree. Each half of them has room for one more.
 pub(crate) const FIRST_MOST: usize = 124;
 
-/// What holds the pages of a map but the first: [`Tree`] is one.
-pub trait HoldsPages<K, V>: Sized {
-    ghost use Rattle.std.specs.Prelude.{ℕ, List};
-
-    /// The pages in ascending order, each the text of its anchor and its entries.
-    ghost pages: { Self → List (List ℕ × List (K × V)) };
-}
-
 /// A tree with a page in each leaf, under the page's anchor.
 pub type Tree<K, V> = ArtTree<Anchor, Page<K, V>, 16>;
 
 /// A leaf of it.
 pub type Leaf<K, V> = LeafPtr<Anchor, Page<K, V>, 16>;
 
-impl<K: KeyBytes, V> HoldsPages<K, V> for ArtTree<Anchor, Page<K, V>, 16> {
-    ghost use Rattle.art_map.specs.Trees.{pages_of};
-
-    ghost pages = { λ tree. pages_of tree.arena };
-}
-
-/// An ordered map over a tree of pages. Callers name it [`Map`].
+/// An ordered map: the list of its entries, in ascending order of their keys.
 #[derive(Drop)]
-pub struct MapOver<T: HoldsPages<K, V>, K: KeyBytes, V> {
+pub struct Map<K: KeyBytes, V> {
     // The entries below all anchors.
     head: Page<K, V>,
-    tree: Option<Box<T>>,
+    tree: Option<Box<Tree<K, V>>>,
     len: usize,
     alloc: Global,
 }
 
-impl<T: HoldsPages<K, V>, K: KeyBytes, V> Model for MapOver<T, K, V> {
+impl<K: KeyBytes, V> Model for Map<K, V> {
     ghost use Rattle.std.specs.Prelude.{◌≡◌, List, length};
 
     ghost Value = { List (K × V) };
 
     ghost use Rattle.art_map.specs.Pages.{map_entries, IsMap};
-    ghost use Rattle.art_map.specs.Trees.{pages_in};
+    ghost use Rattle.art_map.specs.Trees.{pages_in, pages_of};
 
-    ghost view = { λ map. map_entries map.head.entries (pages_in (λ tree. T.pages tree.value) map.tree) };
+    ghost view = { λ map. map_entries map.head.entries (pages_in (λ tree. pages_of tree.value.arena) map.tree) };
 
-    ghost invariant = { λ map. IsMap K.order K.is_key K.encoded map.head.entries (pages_in (λ tree. T.pages tree.value) map.tree)
-        × (map.len ≡ length (map_entries map.head.entries (pages_in (λ tree. T.pages tree.value) map.tree))) };
+    ghost invariant = { λ map. IsMap K.order K.is_key K.encoded map.head.entries (pages_in (λ tree. pages_of tree.value.arena) map.tree)
+        × (map.len ≡ length (map_entries map.head.entries (pages_in (λ tree. pages_of tree.value.arena) map.tree))) };
 }
-
-/// An ordered map: the list of its entries, in ascending order of their keys.
-pub type Map<K, V> = MapOver<Tree<K, V>, K, V>;
 
 impl<K: RadixKey, V> Map<K, V> {
     /// A map with no entries. It takes no memory.
     pub fn new(alloc: Global) -> Self
         ensures { result ≡ [] }
     {
-        MapOver {
+        Map {
             head: Page::new(alloc),
             tree: None,
             len: 0,

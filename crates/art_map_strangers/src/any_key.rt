@@ -1,7 +1,7 @@
 //! An index by keys of any type.
 use art_keys::{RadixKey, RadixQuery};
 use art_map::Map;
-use std::alloc::Global;
+use std::alloc::{AllocError, Global};
 
 #[derive(Drop)]
 pub struct Index<K: RadixKey> {
@@ -48,6 +48,19 @@ impl<K: RadixKey + Drop> Index<K> {
             }
         }
         count
+    }
+
+    pub fn sum(&self) -> u64 {
+        let mut sum: u64 = 0;
+        for number in self.map.values() {
+            sum = sum.saturating_add(*number);
+        }
+        sum
+    }
+
+    pub fn number_or_next(&mut self, key: K) -> Result<u64, AllocError> {
+        let next = self.inserts.saturating_add(1);
+        Ok(*self.map.entry(key).or_insert(next)?)
     }
 }
 

@@ -1,6 +1,6 @@
 //! An index of releases: by the number of a host, the name of a program, and the newest first.
 use art_map::Map;
-use std::alloc::Global;
+use std::alloc::{AllocError, Global};
 use std::cmp::Reverse;
 
 type Key = (u32, String, Reverse<u64>);
@@ -32,6 +32,45 @@ pub fn forget(releases: &mut Releases, host: u32, name: &str, time: u64) -> Opti
 pub fn newest(releases: &Releases) -> Option<u64> {
     let (key, _) = releases.first_key_value()?;
     Some(key.2.0)
+}
+
+/// The ten newest texts of a host and a name.
+pub fn newest_ten<'a>(
+    releases: &'a Releases,
+    host: u32,
+    name: &str,
+    alloc: Global,
+) -> Result<Vec<&'a String>, AllocError> {
+    let mut newest = Vec::new(alloc);
+    for (_, text) in releases.prefix((&host, name)).take(10) {
+        newest.push(text)?;
+    }
+    Ok(newest)
+}
+
+/// The same, as a chain.
+pub fn newest_texts<'a>(
+    releases: &'a Releases,
+    host: u32,
+    name: &str,
+    alloc: Global,
+) -> Result<Vec<&'a String>, AllocError> {
+    releases
+        .prefix((&host, name))
+        .take(10)
+        .map(|(_, text)| text)
+        .collect(alloc)
+}
+
+/// How many of these ten are not older than this.
+pub fn count_since(releases: &Releases, host: u32, name: &str, time: u64) -> u32 {
+    let mut count: u32 = 0;
+    let newest = (&host, name, &Reverse(u64::MAX));
+    let oldest = (&host, name, &Reverse(time));
+    for _ in releases.within(newest..=oldest).take(10) {
+        count = count.saturating_add(1);
+    }
+    count
 }
 
 pub fn count_of_host(releases: &Releases, host: u32) -> u32 {

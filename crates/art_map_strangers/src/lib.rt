@@ -4,8 +4,10 @@
 pub mod any_key;
 pub mod history;
 pub mod moved_entries;
+pub mod name_tuples;
 pub mod nine_parts;
 pub mod over_pages;
 pub mod over_std;
 pub mod sixteen_maps;
+pub mod split_maps;
 pub mod word_counts;

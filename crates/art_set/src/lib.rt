@@ -4,4 +4,4 @@
 mod debug;
 mod set;
 
-pub use set::{Merged, MergedKeys, PeekedKeys, Set, SetOver};
+pub use set::{Merged, Set};

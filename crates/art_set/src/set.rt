@@ -11,18 +11,18 @@ mod reading_keys;
 mod relations;
 
 use art_keys::{KeyBytes, RadixKey};
-use art_map::{HoldsPages, Map, MapOver, Tree};
-pub use merging::{Merged, MergedKeys, PeekedKeys};
+use art_map::Map;
+pub use merging::Merged;
 use std::alloc::Global;
 use std::marker::Model;
 
-/// An ordered set over a tree of pages. Callers name it [`Set`].
+/// An ordered set: the list of its keys, in ascending order.
 #[derive(Drop)]
-pub struct SetOver<T: HoldsPages<K, ()>, K: KeyBytes> {
-    entries: MapOver<T, K, ()>,
+pub struct Set<K: KeyBytes> {
+    entries: Map<K, ()>,
 }
 
-impl<T: HoldsPages<K, ()>, K: KeyBytes> Model for SetOver<T, K> {
+impl<K: KeyBytes> Model for Set<K> {
     ghost use Rattle.std.specs.Prelude.{List};
     ghost use Rattle.std.specs.Map.{keys_of};
 
@@ -31,15 +31,12 @@ impl<T: HoldsPages<K, ()>, K: KeyBytes> Model for SetOver<T, K> {
     ghost view = { λ set. keys_of set.entries };
 }
 
-/// An ordered set: the list of its keys, in ascending order.
-pub type Set<K> = SetOver<Tree<K, ()>, K>;
-
 impl<K: RadixKey> Set<K> {
     /// A set with no keys. It takes no memory.
     pub fn new(alloc: Global) -> Self
         ensures { result ≡ [] }
     {
-        SetOver {
+        Set {
             entries: Map::new(alloc),
         }
     }

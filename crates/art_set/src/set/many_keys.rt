@@ -6,7 +6,7 @@ ghost use Rattle.std.specs.List.Sorted.{IsStrictlySortedBy};
 ghost use Rattle.art_map.specs.declared.fault.InsertRefusal.TheVariants.{KeyTooLong};
 ghost use Rattle.art_set.specs.KeyLists.{contains_by, insert_keys};
 
-use super::{Set, SetOver};
+use super::Set;
 use art_keys::RadixKey;
 use art_map::ExtendFault;
 use std::alloc::{AllocError, Global};
@@ -85,7 +85,7 @@ impl<K: RadixKey + Clone> Set<K> {
         ensures some_keys { OnErr result (self.now ≢ []) }
     {
         match self.entries.try_clone(alloc) {
-            Ok(entries) => Ok(SetOver { entries }),
+            Ok(entries) => Ok(Set { entries }),
             Err(refused) => Err(refused),
         }
     }

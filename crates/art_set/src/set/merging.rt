@@ -6,20 +6,20 @@ ghost use Rattle.art_set.specs.Walks.{walk};
 
 use super::Set;
 use art_keys::{KeyBytes, RadixKey};
-use art_map::{HasPages, Keys, KeysOf, Leaf, Tree};
+use art_map::Keys;
 use std::alloc::AllocError;
 use std::cmp::Ordering;
 use std::iter::FusedIterator;
 use std::marker::Model;
 
-/// Keys that are left, of which the next is known.
+// Keys that are left, of which the next is known.
 #[derive(Drop)]
-pub struct PeekedKeys<'a, T: HasPages<L, K, ()>, L, K> {
+struct Peeked<'a, K: KeyBytes> {
     head: Option<&'a K>,
-    rest: KeysOf<'a, T, L, K, ()>,
+    rest: Keys<'a, K, ()>,
 }
 
-impl<'a, T: HasPages<L, K, ()>, L, K> Model for PeekedKeys<'a, T, L, K> {
+impl<'a, K: KeyBytes> Model for Peeked<'a, K> {
     ghost use Rattle.std.specs.Prelude.{◌≡◌, List, [], IfNone};
     ghost use Rattle.std.specs.List.{cons_option};
     ghost use Rattle.std.specs.Option.{option_copied};
@@ -31,15 +31,13 @@ impl<'a, T: HasPages<L, K, ()>, L, K> Model for PeekedKeys<'a, T, L, K> {
     ghost invariant = { λ p. IfNone p.head (p.rest ≡ []) };
 }
 
-type Peeked<'a, K> = PeekedKeys<'a, Tree<K, ()>, Leaf<K, ()>, K>;
-
 impl<'a, K: RadixKey> Peeked<'a, K> {
     // These keys.
     fn of(mut rest: Keys<'a, K, ()>) -> Self
         ensures { result ≡ rest.entry }
     {
         let head = rest.next();
-        PeekedKeys { head, rest }
+        Peeked { head, rest }
     }
 
     // The next key.
@@ -74,25 +72,27 @@ impl<'a, K: KeyBytes> Clone for Peeked<'a, K> {
 
     fn clone(&self) -> Result<Peeked<'a, K>, AllocError> {
         let rest = self.rest.clone()?;
-        Ok(PeekedKeys {
+        Ok(Peeked {
             head: self.head,
             rest,
         })
     }
 }
 
-/// Some of the keys of two sets that are left, in ascending order. Callers name it [`Merged`].
+/// The keys of a union, an intersection or a difference of two sets that are left, in ascending order.
+/// Contracts see the list of those. A key costs as many steps as keys of the two sets are passed on the way
+/// to it, and each step compares two keys. Takes no memory.
 #[derive(Drop)]
-pub struct MergedKeys<'a, T: HasPages<L, K, ()>, L, K: KeyBytes> {
-    left: PeekedKeys<'a, T, L, K>,
-    right: PeekedKeys<'a, T, L, K>,
+pub struct Merged<'a, K: KeyBytes> {
+    left: Peeked<'a, K>,
+    right: Peeked<'a, K>,
     // Which keys are yielded: those of the left set alone, of both, of the right one alone.
     in_left: bool,
     in_both: bool,
     in_right: bool,
 }
 
-impl<'a, T: HasPages<L, K, ()>, L, K: KeyBytes> Model for MergedKeys<'a, T, L, K> {
+impl<'a, K: KeyBytes> Model for Merged<'a, K> {
     ghost use Rattle.std.specs.Prelude.{List};
     ghost use Rattle.art_set.specs.Walks.{walk};
 
@@ -100,11 +100,6 @@ impl<'a, T: HasPages<L, K, ()>, L, K: KeyBytes> Model for MergedKeys<'a, T, L, K
 
     ghost view = { λ m. walk K.order m.in_left m.in_both m.in_right m.left m.right };
 }
-
-/// The keys of a union, an intersection or a difference of two sets that are left, in ascending order.
-/// Contracts see the list of those. A key costs as many steps as keys of the two sets are passed on the way
-/// to it, and each step compares two keys. Takes no memory.
-pub type Merged<'a, K> = MergedKeys<'a, Tree<K, ()>, Leaf<K, ()>, K>;
 
 // How two keys compare, by the order that a struct knows of.
 fn order_of<K: RadixKey>(key: &K, other: &K) -> Ordering
@@ -175,7 +170,7 @@ impl<'a, K: KeyBytes> Clone for Merged<'a, K> {
     fn clone(&self) -> Result<Merged<'a, K>, AllocError> {
         let left = self.left.clone()?;
         let right = self.right.clone()?;
-        Ok(MergedKeys {
+        Ok(Merged {
             left,
             right,
             in_left: self.in_left,
@@ -186,7 +181,7 @@ impl<'a, K: KeyBytes> Clone for Merged<'a, K> {
 }
 
 // The keys of two sets, as far as they are told to be yielded.
-fn merged<'a, K: RadixKey>(
+fn merge_keys<'a, K: RadixKey>(
     left: Keys<'a, K, ()>,
     right: Keys<'a, K, ()>,
     in_left: bool,
@@ -195,7 +190,7 @@ fn merged<'a, K: RadixKey>(
 ) -> Merged<'a, K>
     ensures { result ≡ walk K.order in_left in_both in_right left.entry right.entry }
 {
-    MergedKeys {
+    Merged {
         left: Peeked::of(left),
         right: Peeked::of(right),
         in_left,
@@ -210,7 +205,7 @@ impl<K: RadixKey> Set<K> {
     pub fn union<'a>(&'a self, other: &'a Self) -> Merged<'a, K>
         ensures { result ≡ union K.cmp self.now other.now }
     {
-        merged(self.iter(), other.iter(), true, true, true)
+        merge_keys(self.iter(), other.iter(), true, true, true)
     }
 
     /// The keys of this set that the other one has, in ascending order. Goes along both sets once, until one
@@ -218,7 +213,7 @@ impl<K: RadixKey> Set<K> {
     pub fn intersection<'a>(&'a self, other: &'a Self) -> Merged<'a, K>
         ensures { result ≡ intersection K.cmp self.now other.now }
     {
-        merged(self.iter(), other.iter(), false, true, false)
+        merge_keys(self.iter(), other.iter(), false, true, false)
     }
 
     /// The keys of this set that the other one lacks, in ascending order. Goes along both sets once, until
@@ -226,7 +221,7 @@ impl<K: RadixKey> Set<K> {
     pub fn difference<'a>(&'a self, other: &'a Self) -> Merged<'a, K>
         ensures { result ≡ difference K.cmp self.now other.now }
     {
-        merged(self.iter(), other.iter(), true, false, false)
+        merge_keys(self.iter(), other.iter(), true, false, false)
     }
 
     /// The keys of each set that the other one lacks, in ascending order. Goes along both sets once. Takes
@@ -234,6 +229,6 @@ impl<K: RadixKey> Set<K> {
     pub fn symmetric_difference<'a>(&'a self, other: &'a Self) -> Merged<'a, K>
         ensures { result ≡ symmetric_difference K.cmp self.now other.now }
     {
-        merged(self.iter(), other.iter(), true, false, true)
+        merge_keys(self.iter(), other.iter(), true, false, true)
     }
 }

@@ -1,0 +1,12 @@
+use Rattle.std.proofs.Common.{◌≡◌, All, false, length}
+use Rattle.art_set.specs.KeyLists.{contains_by}
+use Rattle.art_set.proofs.set.Set.shares_none.Given as goal
+
+-- the keys that were gone through meet the test
+abbrev pub invariant-each : goal.invariant-each
+invariant-each g l =
+    (All (λ key. contains_by (g.K.Ord.cmp key) l.other ≡ false) l.keys → All (λ key. contains_by (g.K.Ord.cmp key) l.other ≡ false) l.self)
+    × (All (λ key. contains_by (g.K.Ord.cmp key) l.other ≡ false) l.self → All (λ key. contains_by (g.K.Ord.cmp key) l.other ≡ false) l.keys)
+
+abbrev pub decreases-each : goal.decreases-each
+decreases-each g l = length l.keys

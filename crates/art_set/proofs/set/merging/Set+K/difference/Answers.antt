@@ -1,9 +1,0 @@
-use Rattle.std.proofs.Common.{◌∙◌, true, false}
-use Rattle.art_set.specs.Walks.{walk}
-use Rattle.art_set.proofs.WalkLemmas.{walk-differs}
-use Rattle.art_set.proofs.set.merging.Set+K.difference.Goals as goal
-
-pub returns : goal.returns
-returns g c =
-    c.merged.ensures ∙ (λ i. walk (g.met.K.RadixKey.ordered i) true false false (c.iter.ensures.keys i) (c.iter-2.ensures.keys i))
-    ∙ walk-differs g.K.Ord.cmp g.met.K.Ord.total c.args.self.now c.args.other.now c.iter.ensures.ordered c.iter-2.ensures.ordered
