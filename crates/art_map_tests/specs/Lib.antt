@@ -1,0 +1,3 @@
+pub mod Names
+pub mod StdEntries
+pub mod MapEntries

@@ -1,7 +1,8 @@
-//! Proved callers of maps, which use public names alone, as another crate does.
-//!
-//! What `art_node_tests` says of its callers and tests holds here too. `map_examples` shows how a
-//! crate uses `leaf_map`.
+//! Callers of maps, with contracts of their own: each is proved from what the map says of its calls.
 #![tactic(auto)]
 
-mod map;
+pub mod counts;
+pub mod map;
+pub mod over_map;
+pub mod over_std;
+pub mod prices;

@@ -1,6 +1,2 @@
-//! Callers of maps.
-mod cursor_callers;
-mod map_examples;
-mod reserved_entries;
-
-use leaf_map::ArtMap;
+//! Callers of the tree below a map.
+pub mod reserved_entries;

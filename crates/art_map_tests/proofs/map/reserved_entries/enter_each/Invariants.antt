@@ -5,7 +5,7 @@ use Rattle.art_map_tests.proofs.map.reserved_entries.enter_each.Given as goal
 
 -- there is room for the entries that are left
 abbrev pub invariant-each : goal.invariant-each
-invariant-each g l = HasEntryRoom l.prices.arena (length (into_iter_items l.entries))
+invariant-each g l = HasEntryRoom l.tree.arena (length (into_iter_items l.entries))
 
 abbrev pub decreases-each : goal.decreases-each
 decreases-each g l = length (into_iter_items l.entries)
