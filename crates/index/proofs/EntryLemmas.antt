@@ -1,35 +1,78 @@
 -- The entries of a map with one more, and the values of entries.
-use Rattle.std.proofs.Common.{◌≡◌, ◌≢◌, ◌⊎◌, ◌∙◌, inl, inr, ℕ, ◌<◌, Bool, true, false, cond, List, [], ◌∷◌, length, map, filter, All, AllPairs, Contains, refl, ap, subst, arith, get_or}
-use Rattle.std.proofs.lemmas.List.{length-map, get_or-map}
-use Rattle.std.proofs.lemmas.List.Elements.{All-contains, All-head, All-tail}
-use Rattle.std.specs.declared.cmp.Ordering.TheVariants.{Equal}
-use Rattle.art_bytes.specs.Text.{text_order}
-use Rattle.art_tree.specs.Entries.{put_entry}
-use Rattle.leaf_map.proofs.CallLaws.{all_after_put, image_inside, inside_image, order_itself, others_there, put_only as entry_only, put_there as entry_there}
+use Rattle.std.proofs.Common.{◌≡◌, ◌≢◌, ◌⊎◌, ◌∙◌, inl, inr, ◌<◌, Bool, true, false, cond, List, [], ◌∷◌, ◌++◌, length, map, filter, All, AllPairs, Contains, refl, sym, ap, subst, arith, get_or}
+use Rattle.std.proofs.lemmas.List.{length-map, get_or-map, map-append}
+use Rattle.std.proofs.lemmas.List.Elements.{All-append, All-cons, All-head, All-tail, Contains-append_cases, Contains-append_left, Contains-append_right}
+use Rattle.std.specs.BTreeMap.{insert_entry}
+use Rattle.std.specs.Ordering.{match_ordering}
+use Rattle.std.specs.declared.cmp.Ordering.{Ordering}
+use Rattle.std.specs.declared.cmp.Ordering.TheVariants.{Less, Equal, Greater}
+use Rattle.art_bytes.proofs.Members.{all_left, all_right, first_or_later, first_there, later_there}
 
 -- the values of entries
 abbrev pub values_of : {K V : Type 0} → List (K × V) → List V
 values_of entries = map (λ entry. entry.1) entries
 
-module _ {K V : Type 0} (text : K → List ℕ) where
-  -- the values with an entry of a new text: its own
-  pub put_there : (entries : List (K × V)) (entry : K × V) (v : V) → All (λ other. text_order (text entry.0) (text other.0) ≢ Equal) entries → Contains (values_of entries) v ⊎ (entry.1 ≡ v) → Contains (values_of (put_entry text entries entry)) v
-  put_there entries entry v new (inl old) =
-      let (other, inside, is) = inside_image (λ e. e.1) entries v old in
-      let apart = All-contains (λ o. text_order (text entry.0) (text o.0) ≢ Equal) entries other new inside in
-      image_inside (λ e. e.1) (put_entry text entries entry) other v is (others_there text entries entry other (λ same. apart (subst (λ t. text_order (text entry.0) t ≡ Equal) same (order_itself (text entry.0)))) inside)
-  put_there entries entry v new (inr same) = image_inside (λ e. e.1) (put_entry text entries entry) entry v same (entry_there text entries entry)
+module _ {K V : Type 0} (entry : K × V) where
+  -- more are the entries and this one, between others
+  pub record IsPut (entries more : List (K × V)) : Type 0 where
+    pub before : List (K × V)
+    pub after : List (K × V)
+    pub old : entries ≡ before ++ after
+    pub new : more ≡ before ++ entry ∷ after
 
-  -- and no others but those of before
-  pub put_only : (entries : List (K × V)) (entry : K × V) (v : V) → Contains (values_of (put_entry text entries entry)) v → Contains (values_of entries) v ⊎ (entry.1 ≡ v)
-  put_only entries entry v there =
-      let (other, inside, is) = inside_image (λ e. e.1) (put_entry text entries entry) v there in
-      elim (entry_only text entries entry other inside) [ inl same ↦ inr (ap (λ e. e.1) same ∙ is) | inr old ↦ inl (image_inside (λ e. e.1) entries other v is old) ]
+  -- a map with a new key has the entry so
+  pub put_between : (order : K → K → Ordering) (entries : List (K × V)) → All (λ other. order entry.0 other.0 ≢ Equal) entries → IsPut entries (insert_entry order entries entry.0 entry.1)
+  put_between order [] apart = record { before = []; after = []; old = refl; new = refl }
+  put_between order (other ∷ others) apart = by_order (order entry.0 other.0) (All-head Apart other others apart) (put_between order others (All-tail Apart other others apart))
+    where
+      Apart : K × V → Type 0
+      Apart other = order entry.0 other.0 ≢ Equal
 
-  -- what is so of each entry and of a new one
-  pub put_all : (P : K × V → Type 0) (entries : List (K × V)) (entry : K × V) → All P entries → P entry → All P (put_entry text entries entry)
-  put_all = all_after_put text
+      by_order : (o : Ordering) → o ≢ Equal → IsPut others (insert_entry order others entry.0 entry.1)
+          → IsPut (other ∷ others) (match_ordering o ((entry.0, entry.1) ∷ other ∷ others) ((other.0, entry.1) ∷ others) (other ∷ insert_entry order others entry.0 entry.1))
+      by_order Less differ rest = record { before = []; after = other ∷ others; old = refl; new = refl }
+      by_order Equal differ rest = absurd (differ refl)
+      by_order Greater differ rest = record { before = other ∷ rest.before; after = rest.after; old = ap (λ all. other ∷ all) rest.old; new = ap (λ all. other ∷ all) rest.new }
 
+  module _ (entries more : List (K × V)) (put : IsPut entries more) where
+    abbrev value : K × V → V
+    value e = e.1
+
+    old_values : values_of entries ≡ values_of put.before ++ values_of put.after
+    old_values = ap values_of put.old ∙ map-append value put.before put.after
+
+    new_values : values_of more ≡ values_of put.before ++ entry.1 ∷ values_of put.after
+    new_values = ap values_of put.new ∙ map-append value put.before (entry ∷ put.after)
+
+    -- its value is there, and those of before
+    pub put_there : (v : V) → Contains (values_of entries) v ⊎ (entry.1 ≡ v) → Contains (values_of more) v
+    put_there v is = subst (λ values. Contains values v) (sym new_values) (by_side is)
+      where
+        by_side : Contains (values_of entries) v ⊎ (entry.1 ≡ v) → Contains (values_of put.before ++ entry.1 ∷ values_of put.after) v
+        by_side (inl old) = elim (Contains-append_cases (values_of put.before) (values_of put.after) v (subst (λ values. Contains values v) old_values old)) [
+          | inl first ↦ Contains-append_left (values_of put.before) (entry.1 ∷ values_of put.after) v first
+          | inr later ↦ Contains-append_right (values_of put.before) (entry.1 ∷ values_of put.after) v (later_there entry.1 v (values_of put.after) later)
+        ]
+        by_side (inr same) = Contains-append_right (values_of put.before) (entry.1 ∷ values_of put.after) v (first_there entry.1 v (values_of put.after) same)
+
+    -- and no others
+    pub put_only : (v : V) → Contains (values_of more) v → Contains (values_of entries) v ⊎ (entry.1 ≡ v)
+    put_only v inside = elim (Contains-append_cases (values_of put.before) (entry.1 ∷ values_of put.after) v (subst (λ values. Contains values v) new_values inside)) [
+      | inl first ↦ inl (subst (λ values. Contains values v) (sym old_values) (Contains-append_left (values_of put.before) (values_of put.after) v first))
+      | inr later ↦ by_place (first_or_later entry.1 v (values_of put.after) later)
+    ]
+      where
+        by_place : (entry.1 ≡ v) ⊎ Contains (values_of put.after) v → Contains (values_of entries) v ⊎ (entry.1 ≡ v)
+        by_place (inl same) = inr same
+        by_place (inr behind) = inl (subst (λ values. Contains values v) (sym old_values) (Contains-append_right (values_of put.before) (values_of put.after) v behind))
+
+    -- what is so of each entry and of a new one
+    pub put_all : (P : K × V → Type 0) → All P entries → P entry → All P more
+    put_all P all one =
+        let parts = subst (All P) put.old all in
+        subst (All P) (sym put.new) (All-append P put.before (entry ∷ put.after) (all_left P put.before put.after parts) (All-cons P entry put.after one (all_right P put.before put.after parts)))
+
+module _ {K V : Type 0} where
   -- a test of values, and the same of entries
   pub filter_values : (P : K × V → Type 0) (p : K × V → Bool) (q : V → Bool) → ((entry : K × V) → P entry → p entry ≡ q entry.1) → (entries : List (K × V)) → All P entries → values_of (filter p entries) ≡ filter q (values_of entries)
   filter_values P p q same [] all = refl

@@ -15,7 +15,7 @@ use Rattle.std.proofs.lemmas.List.Elements.{Contains-append_left, Contains-get_o
 use Rattle.std.proofs.lemmas.List.Quantifiers.{all_pairs_push}
 use Rattle.std.proofs.lemmas.Grind.{flat_map-append}
 use Rattle.std.proofs.lemmas.Map.Lookups.{exact_bytes}
-use Rattle.leaf_map.proofs.CallLaws.{image_inside, inside_image, none_inside}
+use Rattle.art_bytes.proofs.Members.{image_inside, inside_image, none_inside}
 use Rattle.index.specs.Replies.{is_timed, is_within, row_line}
 use Rattle.index.specs.Rows.{AreHosts, address_order, addresses_of, row_order}
 use Rattle.index.specs.Searches.{IsNextHost, is_after}

@@ -1,76 +1,109 @@
--- The order of keys is that of rows.
-use Rattle.std.proofs.Common.{◌≡◌, ◌∙◌, ℕ, ℤ, Bool, true, ◌&&◌, false, List, ◌++◌, length, FitsSigned, to_z, of_z, w64, refl, sym, ap, subst, arith, length-append}
-use Rattle.std.proofs.lemmas.Int.{to_z-of_z}
-use Rattle.std.specs.Net.Addr.{ipv6_octets}
-use Rattle.std.specs.Ordering.{nat_cmp, int_cmp, ordering_reverse, ordering_then, is_eq, is_ge, is_gt, is_le, is_lt}
+-- The order of keys is that of rows, and which keys are between two.
+use Rattle.std.proofs.Common.{◌≡◌, ◌∙◌, ℕ, ℤ, pos, ◌-◌, ◌^◌, ◌<◌, ◌<ℤ◌, true, false, not, ◌&&◌, FitsSigned, to_z, of_z, w64, refl, ap, arith}
+use Rattle.std.proofs.lemmas.Cmp.{by_ranked, int_cmp_total, int_ranked, nat_list_cmp_total, ranked}
+use Rattle.std.proofs.lemmas.Int.{ints, to_z-of_z}
+use Rattle.std.proofs.lemmas.Map.Lookups.{exact_unsigned}
+use Rattle.std.specs.Prelude.{Some}
+use Rattle.std.specs.Cmp.Derive.{then_next}
+use Rattle.std.specs.Net.Addr.{ipv6_segments}
+use Rattle.std.specs.Ordering.{nat_cmp, int_cmp, ordering_reverse, ordering_then, is_eq, is_ge, is_le, is_lt}
 use Rattle.std.specs.declared.cmp.Ordering.{Ordering}
 use Rattle.std.specs.declared.cmp.Ordering.TheVariants.{Less, Equal, Greater}
 use Rattle.std.specs.declared.net.Ipv6Addr.{Ipv6Addr}
-use Rattle.art_bytes.specs.Text.{text_order}
-use Rattle.art_mapped.specs.AddressLaws.{ipv6_keep}
-use Rattle.art_mapped.specs.NumberLaws.{signed_keep, unsigned_keep}
-use Rattle.art_mapped.specs.Numbers.{digits, signed_text}
-use Rattle.art_mapped.specs.SequenceLaws.{text_order-append}
-use Rattle.index.specs.Keys.{AreKeyBytes}
-use Rattle.index.specs.Rows.{address_order}
+use Rattle.index.specs.Keys.{IsKeyed, RowKey, key_of}
+use Rattle.index.specs.Replies.{is_within}
+use Rattle.index.specs.Rows.{address_order, row_order}
+use Rattle.index.specs.Searches.{is_after}
+use Rattle.index.specs.declared.rows.Row.{Row}
 
-module _ (x y : List ℕ) (a b : Ipv6Addr) (t u : ℤ) (m n : ℕ) (x_is : AreKeyBytes x a t m) (y_is : AreKeyBytes y b u n) where
-  -- keys have the order of their parts
-  pub key_order : text_order x y ≡ ordering_then (ordering_then (address_order a b) (int_cmp t u)) (nat_cmp m n)
-  key_order =
-      let times = signed_keep 8 (omega arith) in
-      let places = unsigned_keep 8 (omega arith) in
-      let a_long = ipv6_keep.long a x_is.address_in in
-      let b_long = ipv6_keep.long b y_is.address_in in
-      let t_long = times.long t x_is.time_in in
-      let u_long = times.long u y_is.time_in in
-      let long : length (ipv6_octets a ++ signed_text 8 t) ≡ length (ipv6_octets b ++ signed_text 8 u) =
-      omega (arith, length-append (ipv6_octets a) (signed_text 8 t), length-append (ipv6_octets b) (signed_text 8 u), a_long, b_long, t_long, u_long) in
-      rw (x_is.joined, y_is.joined, text_order-append (ipv6_octets a ++ signed_text 8 t) (ipv6_octets b ++ signed_text 8 u) (digits 8 m) (digits 8 n) long, text_order-append (ipv6_octets a) (ipv6_octets b) (signed_text 8 t) (signed_text 8 u) (a_long ∙ sym b_long), ← ipv6_keep.keeps a b x_is.address_in y_is.address_in, ← times.keeps t u x_is.time_in y_is.time_in, ← places.keeps m n x_is.place_in y_is.place_in) refl
+-- the order of keys, as a map has it
+abbrev pub key_order : RowKey → RowKey → Ordering
+key_order x y = ordering_then (address_order x.0 y.0) (ordering_then (int_cmp x.1.0 y.1.0) (nat_cmp x.1.1 y.1.1))
 
-le_then : (o last : Ordering) → is_le last ≡ true → is_le (ordering_then o last) ≡ is_le o
-le_then Less last is = refl
-le_then Equal last is = is
-le_then Greater last is = refl
+pub order_of_rows : (a b : Row) → key_order (key_of a) (key_of b) ≡ row_order a b
+order_of_rows a b = then_next (address_order a.reading.address b.reading.address) (int_cmp a.reading.time b.reading.time) (nat_cmp a.place b.place) refl refl
 
-ge_then : (o last : Ordering) → is_ge last ≡ true → is_ge (ordering_then o last) ≡ is_ge o
-ge_then Less last is = refl
-ge_then Equal last is = is
-ge_then Greater last is = refl
+-- keys that tie have one place
+pub tied_place : (x y : RowKey) → key_order x y ≡ Equal → x.1.1 ≡ y.1.1
+tied_place x y tied = by_orders (address_order x.0 y.0) (int_cmp x.1.0 y.1.0) tied
+  where
+    by_orders : (a t : Ordering) → ordering_then a (ordering_then t (nat_cmp x.1.1 y.1.1)) ≡ Equal → x.1.1 ≡ y.1.1
+    by_orders Less t tied = absurd (cc)
+    by_orders Greater t tied = absurd (cc)
+    by_orders Equal Less tied = absurd (cc)
+    by_orders Equal Greater tied = absurd (cc)
+    by_orders Equal Equal tied = exact_unsigned x.1.1 y.1.1 tied
 
-and_swap : (a b : Bool) → (a && b) ≡ (b && a)
-and_swap true true = refl
-and_swap true false = refl
-and_swap false true = refl
-and_swap false false = refl
+le_then : (o later : Ordering) → is_le later ≡ true → is_le (ordering_then o later) ≡ is_le o
+le_then Less later is = refl
+le_then Equal later is = is
+le_then Greater later is = refl
+
+lt_then : (o later : Ordering) → is_lt later ≡ false → is_lt (ordering_then o later) ≡ is_lt o
+lt_then Less later is = refl
+lt_then Equal later is = is
+lt_then Greater later is = refl
+
+eq_turned : (o : Ordering) → is_eq (ordering_reverse o) ≡ is_eq o
+eq_turned Less = refl
+eq_turned Equal = refl
+eq_turned Greater = refl
+
+ge_turned : (o : Ordering) → is_ge (ordering_reverse o) ≡ is_le o
+ge_turned Less = refl
+ge_turned Equal = refl
+ge_turned Greater = refl
+
+le_turned : (o : Ordering) → is_le (ordering_reverse o) ≡ not (is_lt o)
+le_turned Less = refl
+le_turned Equal = refl
+le_turned Greater = refl
+
+least_place : (n : ℕ) → is_le (nat_cmp 0 n) ≡ true
+least_place n = by_ranked (0 < n) (0 ≡ n) (n < 0) (nat_cmp 0 n) (ranked 0 n (nat_cmp 0 n) refl) (λ is less. ap is_le is) (λ is same. ap is_le is) (λ is greater. absurd (omega (arith, greater)))
+
+greatest_place : (n : ℕ) → n < 2 ^ 64 → is_lt (nat_cmp (2 ^ 64 - 1) n) ≡ false
+greatest_place n within =
+    by_ranked (2 ^ 64 - 1 < n) (2 ^ 64 - 1 ≡ n) (n < 2 ^ 64 - 1) (nat_cmp (2 ^ 64 - 1) n) (ranked (2 ^ 64 - 1) n (nat_cmp (2 ^ 64 - 1) n) refl) (λ is less. absurd (omega (arith, within, less))) (λ is same. ap is_lt is) (λ is greater. ap is_lt is)
+
+greatest_time : (t : ℤ) → FitsSigned w64 t → is_lt (int_cmp (pos (2 ^ 63 - 1)) t) ≡ false
+greatest_time t within =
+    by_ranked (pos (2 ^ 63 - 1) <ℤ t) (pos (2 ^ 63 - 1) ≡ t) (t <ℤ pos (2 ^ 63 - 1)) (int_cmp (pos (2 ^ 63 - 1)) t) (int_ranked (pos (2 ^ 63 - 1)) t (int_cmp (pos (2 ^ 63 - 1)) t) refl) (λ is less. absurd (omega (arith, ints, within.sfits, less))) (λ is same. ap is_lt is) (λ is greater. ap is_lt is)
 
 -- what is between the first place and the last of an address has the address, and its time between theirs
-pub between_places : (address to from last first : Ordering) → is_le last ≡ true → is_ge first ≡ true → (is_le (ordering_then (ordering_then address to) last) && is_ge (ordering_then (ordering_then address from) first)) ≡ (is_eq address && (is_ge from && is_le to))
-between_places Less to from last first most least = refl
-between_places Equal to from last first most least = rw (le_then to last most, ge_then from first least) (and_swap (is_le to) (is_ge from))
-between_places Greater to from last first most least = refl
+between : (address from first to last : Ordering) → is_le first ≡ true → is_lt last ≡ false
+    → (is_le (ordering_then address (ordering_then from first)) && not (is_lt (ordering_then address (ordering_then to last)))) ≡ (is_eq address && (is_le from && not (is_lt to)))
+between Less from first to last least greatest = refl
+between Equal from first to last least greatest = rw (le_then from first least, lt_then to last greatest) refl
+between Greater from first to last least greatest = refl
 
 -- what is above the last place of an address has an address above it
-above_last : (o : Ordering) (last : Ordering) → is_le last ≡ true → is_gt (ordering_then o last) ≡ is_gt o
-above_last Less last is = refl
-above_last Equal Less is = refl
-above_last Equal Equal is = refl
-above_last Equal Greater is = absurd (cc)
-above_last Greater last is = refl
+above_last : (address time last : Ordering) → is_lt time ≡ false → is_lt last ≡ false → is_lt (ordering_then address (ordering_then time last)) ≡ is_lt address
+above_last Less time last latest greatest = refl
+above_last Equal time last latest greatest = lt_then time last greatest ∙ latest
+above_last Greater time last latest greatest = refl
 
-pub above_places : (address back time place : Ordering) → address ≡ ordering_reverse back → is_le time ≡ true → is_le place ≡ true → is_gt (ordering_then (ordering_then address time) place) ≡ is_lt back
-above_places address back time place reversed last_time last_place =
-    above_last (ordering_then address time) place last_place ∙ above_last address time last_time ∙ ap is_gt reversed ∙ turned back
-  where
-    turned : (o : Ordering) → is_gt (ordering_reverse o) ≡ is_lt o
-    turned Less = refl
-    turned Equal = refl
-    turned Greater = refl
+module _ (entry : RowKey × Row) (is : IsKeyed entry) (address : Ipv6Addr) where
+  pub within_bounds : (from to : ℤ) → (is_le (key_order (address, (from, 0)) entry.0) && not (is_lt (key_order (address, (to, 2 ^ 64 - 1)) entry.0))) ≡ is_within address from to entry.1
+  within_bounds from to =
+      let row = entry.1 in
+      let a = row.reading.address in
+      let t = row.reading.time in
+      let at : Ordering = address_order address a in
+      let host : is_eq (address_order a address) ≡ is_eq at = ap is_eq (nat_list_cmp_total.antisymm (ipv6_segments a) (ipv6_segments address)) ∙ eq_turned at in
+      let start : is_ge (int_cmp t from) ≡ is_le (int_cmp from t) = ap is_ge (int_cmp_total.antisymm t from) ∙ ge_turned (int_cmp from t) in
+      let end : is_le (int_cmp t to) ≡ not (is_lt (int_cmp to t)) = ap is_le (int_cmp_total.antisymm t to) ∙ le_turned (int_cmp to t) in
+      rw is.key (rw (host, start, end) (between at (int_cmp from t) (nat_cmp 0 row.place) (int_cmp to t) (nat_cmp (2 ^ 64 - 1) row.place) (least_place row.place) (greatest_place row.place is.place_in)))
+
+  pub above_host : is_lt (key_order (address, (pos (2 ^ 63 - 1), 2 ^ 64 - 1)) entry.0) ≡ is_after (Some address) entry.1.reading.address
+  above_host =
+      let row = entry.1 in
+      rw is.key (above_last (address_order address row.reading.address) (int_cmp (pos (2 ^ 63 - 1)) row.reading.time) (nat_cmp (2 ^ 64 - 1) row.place) (greatest_time row.reading.time is.time_in) (greatest_place row.place is.place_in))
 
 -- a time that was read is the time
-pub key_of_time : (bytes : List ℕ) (address : Ipv6Addr) (time : ℤ) (place : ℕ) → FitsSigned w64 time → AreKeyBytes bytes address (to_z w64 (of_z w64 time)) place → AreKeyBytes bytes address time place
-key_of_time bytes address time place fits is = subst (λ t. AreKeyBytes bytes address t place) (to_z-of_z w64 time fits) is
+pub read_key : (address : Ipv6Addr) (time : ℤ) (place : ℕ) → FitsSigned w64 time → ◌≡◌ {A = RowKey} (address, (to_z w64 (of_z w64 time), place)) (address, (time, place))
+read_key address time place fits = ap (λ t. (address, (t, place))) (to_z-of_z w64 time fits)
 
--- nor does it matter that both times of a query were read
+-- and so are both times of a query
 pub same_times : {X : Type 0} (f : ℤ → ℤ → X) (from to : ℤ) → FitsSigned w64 from × FitsSigned w64 to → f (to_z w64 (of_z w64 from)) (to_z w64 (of_z w64 to)) ≡ f from to
 same_times f from to fits = ap (λ t. f t (to_z w64 (of_z w64 to))) (to_z-of_z w64 from fits.0) ∙ ap (f from) (to_z-of_z w64 to fits.1)

@@ -1,7 +1,7 @@
 -- What the filters of a list keep: the first element, parts one after the other, and how many.
 use Rattle.std.proofs.Common.{◌≡◌, ◌∙◌, ◌⊎◌, inl, inr, suc, ◌<◌, ◌≤◌, Bool, true, false, ◌||◌, cond, List, [], ◌∷◌, ◌++◌, length, filter, AllPairs, Contains, Some, None, refl, sym, ap, subst, arith}
 use Rattle.std.specs.Prelude.{slice_get}
-use Rattle.leaf_map.proofs.CallLaws.{first_or_later, first_there, inside_part, later_there, none_inside}
+use Rattle.art_bytes.proofs.Members.{first_or_later, first_there, inside_part, later_there, none_inside}
 
 module _ {X : Type 0} where
   -- what is so of each pair is so of the first element and a later one, and of each pair of the others

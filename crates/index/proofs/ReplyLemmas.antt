@@ -9,7 +9,7 @@ use Rattle.std.proofs.lemmas.Option.{slice_get-map}
 use Rattle.index.specs.declared.query.Query.{Query}
 use Rattle.index.specs.declared.query.Query.TheVariants.{First, Last}
 use Rattle.index.specs.declared.rows.Row.{Row}
-use Rattle.index.specs.Keys.{IsTable}
+use Rattle.index.specs.Keys.{IsTable, RowKey}
 use Rattle.index.specs.Queries.{SayQuery}
 use Rattle.index.specs.Replies.{HasReply, IsReply, end_line}
 use Rattle.index.specs.Searches.{AppendsReply}
@@ -58,8 +58,8 @@ module _ {K : Type 0} (entries : List (K × Row)) where
         appended (values_of entries) query Last old new (end_line (slice_get (values_of entries) (length (values_of entries) - 1))) is refl (pushed ∙ ap (λ e. old ++ end_line e) (row_at o (length entries - 1) last ∙ place))
 
 -- a reply to a line, by the file of the rows
-pub reply_said : {K E F : Type 0} (has_header : Bool) (text : K → List ℕ) (entries : List (K × Row)) (given old new : List ℕ) (result : Result (Option F) E) → IfOk result (λ fault. IfNone fault ((query : Query) × SayQuery given query × AppendsReply (values_of entries) query old new))
-    → IfOk result (λ fault. IfNone fault ((file : List ℕ) → IsTable text has_header file entries → (shown : List ℕ) × HasReply has_header file given shown × (new ≡ old ++ shown)))
-reply_said has_header text entries given old new (Err e) so = tt
-reply_said has_header text entries given old new (Ok (Some fault)) so = tt
-reply_said has_header text entries given old new (Ok None) (query, said, (shown, reply, is)) = λ file table. (shown, (table.0, values_of entries, query, table.1, table.2, said, reply), is)
+pub reply_said : {E F : Type 0} (has_header : Bool) (entries : List (RowKey × Row)) (given old new : List ℕ) (result : Result (Option F) E) → IfOk result (λ fault. IfNone fault ((query : Query) × SayQuery given query × AppendsReply (values_of entries) query old new))
+    → IfOk result (λ fault. IfNone fault ((file : List ℕ) → IsTable has_header file entries → (shown : List ℕ) × HasReply has_header file given shown × (new ≡ old ++ shown)))
+reply_said has_header entries given old new (Err e) so = tt
+reply_said has_header entries given old new (Ok (Some fault)) so = tt
+reply_said has_header entries given old new (Ok None) (query, said, (shown, reply, is)) = λ file table. (shown, (table.0, values_of entries, query, table.1, table.2, said, reply), is)

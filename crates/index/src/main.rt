@@ -9,7 +9,6 @@ mod fields;
 mod query;
 mod reading;
 mod replies;
-mod row_key;
 mod rows;
 mod searches;
 

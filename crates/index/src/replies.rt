@@ -3,7 +3,7 @@ ghost use Rattle.std.specs.Prelude.{◌≡◌, ◌++◌, List, IfErr, IfNone, If
 ghost use Rattle.std.specs.List.{flat_map};
 ghost use Rattle.std.specs.Option.{option_map};
 ghost use Rattle.std.specs.declared.net.Ipv6Addr.{Ipv6Addr};
-ghost use Rattle.index.specs.Keys.{AreKeyed, HasTimes, IsTable, row_key_text};
+ghost use Rattle.index.specs.Keys.{AreKeyed, HasTimes, IsTable};
 ghost use Rattle.program_lines.specs.Failures.{IfBadLine};
 ghost use Rattle.index.specs.Queries.{SayQuery};
 ghost use Rattle.index.specs.Readings.{IsBadRow};
@@ -15,8 +15,7 @@ ghost use Rattle.index.specs.declared.query.Query.{Query};
 use crate::fault::Fault;
 use crate::query::Query;
 use crate::reading::table_of;
-use crate::row_key::RowKey;
-use crate::rows::{Row, RowMap, index_of};
+use crate::rows::{Row, RowKey, RowMap, index_of};
 use crate::searches::{Rows, count_of_host, next_host, rows_of_host};
 use program_lines::{Failure, LineFault, Program, item_of, push_line, push_number};
 use std::alloc::{AllocError, Global};
@@ -31,13 +30,13 @@ pub(crate) struct ReadingIndex<'a, const HAS_HEADER: bool> {
 
 impl<'a, const HAS_HEADER: bool> Program<'a> for ReadingIndex<'a, HAS_HEADER> {
     ghost use Rattle.std.specs.Prelude.{◌≡◌, []};
-    ghost use Rattle.index.specs.Keys.{IsTable, row_key_text};
+    ghost use Rattle.index.specs.Keys.{IsTable};
     ghost use Rattle.index.specs.Readings.{IsBadRow};
     ghost use Rattle.index.specs.Replies.{HasReply, HasFault};
 
     type Fault = Fault;
 
-    ghost is_table = { λ file index. IsTable row_key_text HAS_HEADER file index.rows };
+    ghost is_table = { λ file index. IsTable HAS_HEADER file index.rows };
 
     ghost is_heading = { λ file heading. heading ≡ [] };
 
@@ -72,7 +71,7 @@ fn rows_of_table(
     has_header: bool,
     file: &[u8],
 ) -> Result<RowMap<'_>, Failure<LineFault<Fault>>>
-    ensures table { IfOk result (IsTable row_key_text has_header file.now) }
+    ensures table { IfOk result (IsTable has_header file.now) }
     ensures refused { IfErr result (IfBadLine (IsBadRow has_header file.now)) }
 {
     let table = table_of(alloc, has_header, file)?;
@@ -87,7 +86,7 @@ fn answer_line(
     line: &[u8],
     output: &mut Vec<u8>,
 ) -> Result<Option<LineFault<Fault>>, AllocError>
-    requires keyed { AreKeyed row_key_text rows.now }
+    requires keyed { AreKeyed rows.now }
     ensures reply { IfOk result (λ fault. IfNone fault ((query : Query) × SayQuery line.now query
         × AppendsReply (map (λ entry. entry.1) rows.now) query output.old.items output.new.items)) }
     ensures fault { IfOk result (λ fault. IfSome fault (λ this.
@@ -108,7 +107,7 @@ fn push_reply(
     query: &Query,
     output: &mut Vec<u8>,
 ) -> Result<(), AllocError>
-    requires keyed { AreKeyed row_key_text index.now }
+    requires keyed { AreKeyed index.now }
     requires times { HasTimes query.now }
     ensures { OnOk result
         (AppendsReply (map (λ entry. entry.1) index.now) query.now output.old.items output.new.items) }
@@ -120,8 +119,8 @@ fn push_reply(
         }
         Query::Time(from, to) => push_timed(index, from, to, output)?,
         Query::Hosts => push_hosts(alloc, index, output)?,
-        Query::First => push_end(index.first(), output)?,
-        Query::Last => push_end(index.last(), output)?,
+        Query::First => push_end(index.first_key_value(), output)?,
+        Query::Last => push_end(index.last_key_value(), output)?,
         Query::Count => push_number(alloc, index.len(), output)?,
         Query::CountHost(address, from, to) => {
             push_number(alloc, count_of_host(index, address, from, to), output)?;
@@ -149,11 +148,12 @@ fn push_timed(
     to: i64,
     output: &mut Vec<u8>,
 ) -> Result<(), AllocError>
-    requires keyed { AreKeyed row_key_text index.now }
+    requires keyed { AreKeyed index.now }
     ensures { OnOk result (output.new.items ≡ output.old.items
         ++ flat_map row_line (filter (is_timed from to) (map (λ entry. entry.1) index.now))) }
 {
-    index.entries_ascend();
+    // So that the rows are known to ascend where there is no host.
+    let _count = index.len();
     let mut last = None;
     while let Some(address) = next_host(index, last) {
         push_rows(rows_of_host(index, address, from, to), output)?;
@@ -164,7 +164,7 @@ fn push_timed(
 
 // Appends a line for each host.
 fn push_hosts(alloc: Global, index: &RowMap<'_>, output: &mut Vec<u8>) -> Result<(), AllocError>
-    requires keyed { AreKeyed row_key_text index.now }
+    requires keyed { AreKeyed index.now }
     ensures { OnOk result ((hosts : List Ipv6Addr) × AreHosts (map (λ entry. entry.1) index.now) hosts
         × (output.new.items ≡ output.old.items ++ flat_map host_line hosts)) }
 {

@@ -1,5 +1,4 @@
-mod KeyLemmas
 mod PlaceLemmas
 mod ReplyLemmas
-mod TextLemmas
+mod WordLemmas
 mod QueryLemmas

@@ -1,12 +1,11 @@
 -- The words of entries and their places in order.
-use Rattle.std.specs.Prelude.{◌≡◌, ℕ, suc, List, [], ◌∷◌, map}
-use Rattle.art_bytes.specs.declared.c_string_key.CStringKey.{CStringKey}
-use Rattle.words.specs.Dictionaries.{word_of}
+use Rattle.std.specs.Prelude.{◌≡◌, ℕ, suc, List, [], ◌∷◌, map, Vec}
+use Rattle.std.specs.Vec.{vec_items}
 use Rattle.words.specs.Replies.{IsList}
 
--- the words of these entries, each of a key and a place
-abbrev pub words_of : List (CStringKey × ℕ) → List (List ℕ)
-words_of entries = map (λ entry. word_of entry.0) entries
+-- the words of these entries, each of a word and its place
+abbrev pub words_of : {A : Type 0} → List (Vec ℕ A × ℕ) → List (List ℕ)
+words_of entries = map (λ entry. vec_items entry.0) entries
 
 -- the places count up from this number
 abbrev pub CountsFrom : {K : Type 0} → ℕ → List (K × ℕ) → Type 0
@@ -18,5 +17,5 @@ abbrev pub Counts : {K : Type 0} → List (K × ℕ) → Type 0
 Counts entries = (n : ℕ) × CountsFrom n entries
 
 -- the entries are the words of this list, with their places
-abbrev pub IsTable : List ℕ → List (CStringKey × ℕ) → Type 0
+abbrev pub IsTable : {A : Type 0} → List ℕ → List (Vec ℕ A × ℕ) → Type 0
 IsTable list entries = IsList list (words_of entries) × CountsFrom 0 entries

@@ -1,21 +1,18 @@
 //! The list of words, and the dictionary of them.
-ghost use Rattle.std.specs.Prelude.{◌≡◌, ◌≤◌, ◌<◌, ◌^◌, ◌++◌, ◌∷◌, [], length, map, IfOk, OnErr};
-ghost use Rattle.art_bytes.specs.CString.{HasNoZero};
-ghost use Rattle.art_bytes.specs.CStringKey.{c_string_key_text};
-ghost use Rattle.words.specs.Dictionaries.{IsDictionary, word_of as word_of_key};
+ghost use Rattle.std.specs.Prelude.{◌≡◌, map, IfOk};
+ghost use Rattle.words.specs.Dictionaries.{IsDictionary};
 ghost use Rattle.words.specs.Places.{CountsFrom, words_of};
 ghost use Rattle.words.specs.Queries.{SayWord};
 
 use crate::fault::Fault;
 use crate::query::without_zero;
-use art_bytes::{AsBytes, CStringKey};
-use leaf_map::{ArtMap, DEFAULT_PREFIX_LEN};
+use art_map::Map;
 use program_lines::FromLine;
 use std::alloc::{AllocError, Global};
 
-/// The words of a list. A word's key is its bytes and a zero byte, and its value how many words come
-/// before it in order, so that words with one prefix are counted by the places of the first and the last.
-pub(crate) type Dictionary = ArtMap<CStringKey, usize, DEFAULT_PREFIX_LEN>;
+/// The words of a list. The value of a word is how many words come before it in order, so that words
+/// with one prefix are counted by the places of the first and the last.
+pub(crate) type Dictionary = Map<Vec<u8>, usize>;
 
 /// A line of the list.
 #[derive(Clone, Copy)]
@@ -56,15 +53,13 @@ fn unnumbered(alloc: Global, words: &[Word<'_>]) -> Result<Dictionary, AllocErro
     ensures { IfOk result (λ entries.
         IsDictionary (map (λ word. word.bytes.now) words.now) (words_of entries)) }
 {
-    let mut dictionary = ArtMap::new(alloc);
+    let mut dictionary: Dictionary = Map::new(alloc);
     for word in words {
-        let key = key_of(alloc, word.bytes)?;
-        match dictionary.insert(key, 0) {
-            Ok(_) => {}
-            Err(_) => return Err(AllocError),
-        }
+        let key = word.bytes.to_vec(alloc)?;
+        dictionary.insert(key, 0)?;
     }
-    dictionary.entries_ascend();
+    // So that the words are known to ascend where there is none.
+    let _count = dictionary.len();
     Ok(dictionary)
 }
 
@@ -80,21 +75,4 @@ fn number(dictionary: &mut Dictionary)
         // There are fewer words than numbers.
         next = next.wrapping_add(1);
     });
-}
-
-/// The key of a word. An allocation may fail, and nothing else where no byte is zero.
-pub(crate) fn key_of(alloc: Global, word: &[u8]) -> Result<CStringKey, AllocError>
-    ensures text { IfOk result (λ key. c_string_key_text key ≡ word.now ++ 0 ∷ []) }
-{
-    let mut bytes = Vec::with_capacity(alloc, word.len() + 1)?;
-    bytes.extend_from_slice(word)?;
-    CStringKey::new(bytes).map_err(|_| AllocError)
-}
-
-/// The word of a key.
-pub(crate) fn word_of(key: &CStringKey) -> &[u8]
-    ensures { result.now ≡ word_of_key key.now }
-{
-    let bytes = key.as_bytes();
-    &bytes[..bytes.len() - 1]
 }

@@ -4,16 +4,14 @@ ghost use Rattle.std.specs.Fmt.{decimal};
 ghost use Rattle.std.specs.List.{flat_map};
 ghost use Rattle.std.specs.Option.{option_map};
 ghost use Rattle.program_lines.specs.Lines.{line};
-ghost use Rattle.words.specs.Dictionaries.{word_of as word_of_key};
 ghost use Rattle.words.specs.Places.{Counts, CountsFrom, words_of};
 ghost use Rattle.words.specs.Queries.{IsSaid};
 ghost use Rattle.words.specs.Replies.{reply, neighbour};
 
-use crate::dictionary::{Dictionary, Word, dictionary_of, key_of, word_of};
+use crate::dictionary::{Dictionary, Word, dictionary_of};
 use crate::fault::Fault;
 use crate::query::Query;
-use art_bytes::{CStringKey, SliceKey};
-use leaf_map::{DEFAULT_PREFIX_LEN, Iter};
+use art_map::Iter;
 use program_lines::{
     Failure, LineFault, Program, Source, item_of, push_line, push_number, said_whole,
 };
@@ -69,7 +67,7 @@ impl<'a> Program<'a> for Words {
 }
 
 // Words of a dictionary in order, each with its place.
-type Entries<'a> = Iter<'a, CStringKey, usize, DEFAULT_PREFIX_LEN>;
+type Entries<'a> = Iter<'a, Vec<u8>, usize>;
 
 // Appends what a query prints.
 fn push_reply(
@@ -83,27 +81,22 @@ fn push_reply(
     ensures { OnOk result (output.new.items
         ≡ output.old.items ++ reply (words_of dictionary.now) query.now) }
 {
-    dictionary.entries_ascend();
     match *query {
-        Query::Begin(prefix) => {
-            push_words(dictionary.prefix(&SliceKey::new(prefix)), output)?;
-        }
+        Query::Begin(prefix) => push_words(dictionary.prefix(prefix), output)?,
         Query::FirstOf(prefix, most) => {
-            push_first_words(dictionary.prefix(&SliceKey::new(prefix)), most, output)?;
+            push_first_words(dictionary.prefix(prefix), most, output)?;
         }
         Query::Count(prefix) => {
-            let entries = dictionary.prefix(&SliceKey::new(prefix));
-            let count = count_of(entries, dictionary.len());
+            let count = count_of(dictionary.prefix(prefix), dictionary.len());
             push_number(alloc, count, output)?;
         }
         Query::Before(word) => {
-            let key = key_of(alloc, word)?;
-            let below = dictionary.range(Bound::Unbounded, Bound::Excluded(&key));
-            push_neighbour(last_of(below), output)?;
+            let gap = dictionary.upper_bound(Bound::Excluded(word));
+            push_neighbour(gap.peek_prev(), output)?;
         }
         Query::After(word) => {
-            let key = key_of(alloc, word)?;
-            push_neighbour(dictionary.upper_bound(&key), output)?;
+            let gap = dictionary.lower_bound(Bound::Excluded(word));
+            push_neighbour(gap.peek_next(), output)?;
         }
     }
     Ok(())
@@ -144,7 +137,7 @@ fn push_words(entries: Entries<'_>, output: &mut Vec<u8>) -> Result<(), AllocErr
         ≡ output.old.items ++ flat_map line (words_of entries.entry)) }
 {
     for (key, _) in entries {
-        push_line(output, word_of(key))?;
+        push_line(output, key)?;
     }
     Ok(())
 }
@@ -160,29 +153,18 @@ fn push_first_words(entries: Entries<'_>, most: u64, output: &mut Vec<u8>) -> Re
             return Ok(());
         }
         left -= 1;
-        push_line(output, word_of(key))?;
+        push_line(output, key)?;
     }
     Ok(())
 }
 
 // Appends a line with the word of an entry, or with none.
-fn push_neighbour(
-    entry: Option<(&CStringKey, &usize)>,
-    output: &mut Vec<u8>,
-) -> Result<(), AllocError>
+fn push_neighbour(entry: Option<(&Vec<u8>, &usize)>, output: &mut Vec<u8>) -> Result<(), AllocError>
     ensures { OnOk result (output.new.items ≡ output.old.items
-        ++ neighbour (option_map (λ (key, place). word_of_key key.now) entry.entry)) }
+        ++ neighbour (option_map (λ (key, place). key.now.items) entry.entry)) }
 {
     match entry {
-        Some((key, _)) => push_line(output, word_of(key)),
+        Some((key, _)) => push_line(output, key),
         None => push_line(output, b"none"),
     }
-}
-
-// The last of these entries.
-fn last_of<'a>(mut entries: Entries<'a>) -> Option<(&'a CStringKey, &'a usize)>
-    ensures { option_map (λ (key, place). (key.now, place.now)) result
-        ≡ slice_get entries.entry (length entries.entry - 1) }
-{
-    entries.next_back()
 }

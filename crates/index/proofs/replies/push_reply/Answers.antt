@@ -39,18 +39,18 @@ returns-in_ok-push_hosts-in-Hosts c =
 
 pub returns-in_ok-push_end-in-First : goal.returns-in_ok-push_end-in-First
 returns-in_ok-push_end-in-First c =
-    reply_first c.args.index.now c.args.query.now c.args.output.now.items c.push_end.new.output.items c.first.result c.in_ok-push_end-in-First.ensures c.in-First.is c.first.ensures
+    reply_first c.args.index.now c.args.query.now c.args.output.now.items c.push_end.new.output.items c.first_key_value.result c.in_ok-push_end-in-First.ensures c.in-First.is c.first_key_value.ensures.first
 
 pub returns-in_ok-push_end-in-Last : goal.returns-in_ok-push_end-in-Last
 returns-in_ok-push_end-in-Last c =
-    reply_last c.args.index.now c.args.query.now c.args.output.now.items c.push_end-in-Last.new.output.items c.last.result c.in_ok-push_end-in-Last.ensures c.in-Last.is c.last.ensures
+    reply_last c.args.index.now c.args.query.now c.args.output.now.items c.push_end-in-Last.new.output.items c.last_key_value.result c.in_ok-push_end-in-Last.ensures c.in-Last.is c.last_key_value.ensures.last
 
 pub returns-in_ok-push_number-in-Count : goal.returns-in_ok-push_number-in-Count
 returns-in_ok-push_number-in-Count c =
     let rows = values_of c.args.index.now in
     let old = c.args.output.now.items in
     appended rows c.args.query.now Count old c.push_number.new.output.items (line (decimal (length rows))) c.in-Count.is refl
-    (c.in_ok-push_number-in-Count.ensures ∙ ap (λ n. old ++ line (decimal n)) (c.len.ensures ∙ sym (length-map c.args.index.now (row_of c.args.index.now))))
+    (c.in_ok-push_number-in-Count.ensures ∙ ap (λ n. old ++ line (decimal n)) (c.len.ensures.len ∙ sym (length-map c.args.index.now (row_of c.args.index.now))))
 
 pub returns-in_ok-push_number-in-CountHost : goal.returns-in_ok-push_number-in-CountHost
 returns-in_ok-push_number-in-CountHost c =

@@ -1,6 +1,4 @@
-use Rattle.std.proofs.Common.{◌≡◌, None, Some, filter, refl, subst, sym}
-use Rattle.leaf_map.specs.Ranges.{entries_above}
-use Rattle.index.specs.Keys.{row_key_text}
+use Rattle.std.proofs.Common.{◌≡◌, ◌∙◌, None, Some, ap, filter, refl, subst, sym}
 use Rattle.index.specs.Searches.{IsNextHost, is_after}
 use Rattle.index.proofs.EntryLemmas.{values_of}
 use Rattle.index.proofs.HostLemmas.{next_is}
@@ -13,20 +11,19 @@ pub returns-in-None : goal.returns-in-None
 returns-in-None c =
     let entries = c.args.index.now in
     let rows = values_of entries in
-    let ascending = rows_ascend row_key_text entries c.requires.keyed c.entries_ascend.ensures.ascending in
+    let ascending = rows_ascend entries c.requires.keyed c.first_key_value.ensures.ordered in
     let all = filter (λ row. is_after None row.reading.address) rows in
     let same : rows ≡ all = sym (all_pass (λ row. is_after None row.reading.address) rows (λ row. refl)) in
     subst (λ last. IsNextHost rows last c.host_of.result) (sym c.in-None.is)
-    (next_is rows ascending None c.host_of.result (first_host entries all c.first.result c.host_of.result c.host_of.ensures c.first.ensures same))
+    (next_is rows ascending None c.host_of.result (first_host entries all c.first_key_value.result c.host_of.result c.host_of.ensures c.first_key_value.ensures.first same))
 
 pub returns-in-Some : goal.returns-in-Some
 returns-in-Some c =
     let entries = c.args.index.now in
     let rows = values_of entries in
     let address = c.in-Some.address in
-    let ascending = rows_ascend row_key_text entries c.requires.keyed c.entries_ascend.ensures.ascending in
-    let end = row_key_text c.new-end.result in
+    let ascending = rows_ascend entries c.requires.keyed c.lower_bound-gap.ensures.ordered in
     let above = filter (λ row. is_after (Some address) row.reading.address) rows in
-    let same : values_of (entries_above row_key_text end entries) ≡ above = rows_above row_key_text entries end address c.requires.keyed c.new-end.ensures in
+    let same : values_of c.lower_bound-gap.result.1 ≡ above = ap values_of c.lower_bound-gap.ensures.after ∙ rows_above entries address c.requires.keyed in
     subst (λ last. IsNextHost rows last c.host_of-in-Some.result) (sym c.in-Some.is)
-    (next_is rows ascending (Some address) c.host_of-in-Some.result (first_host (entries_above row_key_text end entries) above c.upper_bound.result c.host_of-in-Some.result c.host_of-in-Some.ensures c.upper_bound.ensures same))
+    (next_is rows ascending (Some address) c.host_of-in-Some.result (first_host c.lower_bound-gap.result.1 above c.peek_next.result c.host_of-in-Some.result c.host_of-in-Some.ensures c.peek_next.ensures same))

@@ -1,9 +1,8 @@
-use Rattle.std.proofs.Common.{◌++◌, ◌∷◌, [], map, take}
-use Rattle.art_bytes.specs.CStringKey.{c_string_key_text}
-use Rattle.words.proofs.TextLemmas.{HasTexts}
+use Rattle.std.proofs.Common.{map, take}
+use Rattle.std.specs.Vec.{vec_items}
+use Rattle.words.proofs.WordLemmas.{HasWords}
 use Rattle.words.proofs.dictionary.unnumbered.Given as goal
 
--- the keys are those of the words so far
+-- the keys are the words so far
 abbrev pub invariant-loop-word : goal.invariant-loop-word
-invariant-loop-word l =
-    HasTexts c_string_key_text l.dictionary (map (λ word. word ++ 0 ∷ []) (map (λ word. word.bytes.now) (take l.word-index l.words)))
+invariant-loop-word l = HasWords vec_items l.dictionary (map (λ word. word.bytes.now) (take l.word-index l.words))

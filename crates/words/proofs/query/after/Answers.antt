@@ -1,4 +1,4 @@
-use Rattle.std.proofs.Common.{inl, inr, refl}
+use Rattle.std.proofs.Common.{inr, refl}
 use Rattle.words.proofs.query.after.Goals as goal
 
 pub returns-in-Err-clause-fault : goal.returns-in-Err-clause-fault

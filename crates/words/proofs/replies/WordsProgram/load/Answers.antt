@@ -1,10 +1,11 @@
 use Rattle.std.proofs.Common.{◌≡◌, ◌++◌, ◌∙◌, ℕ, List, map, length, subst, sym, ap, refl, rules}
 use Rattle.std.specs.Prelude.{codes}
 use Rattle.std.specs.Fmt.{decimal}
+use Rattle.std.specs.Vec.{vec_items}
 use Rattle.std.proofs.lemmas.List.{length-map}
 use Rattle.program_lines.specs.Lines.{line, lines_of}
 use Rattle.words.specs.declared.dictionary.Word.{Word}
-use Rattle.words.specs.Dictionaries.{IsDictionary, word_of}
+use Rattle.words.specs.Dictionaries.{IsDictionary}
 use Rattle.words.specs.Places.{words_of}
 use Rattle.words.specs.Replies.{counts}
 use Rattle.words.proofs.ReplyLemmas.{lines_are}
@@ -22,7 +23,7 @@ returns-clause-heading c =
     let bytes : Word → List ℕ = λ word. word.bytes.now in
     let first : c.len.result ≡ length c.in_ok-dictionary.dictionary = search rules in
     let second : c.len-2.result ≡ length c.in_ok-words.words.items = search rules in
-    let many : c.len.result ≡ length words = first ∙ sym (length-map c.in_ok-dictionary.dictionary (λ entry. word_of entry.0)) in
+    let many : c.len.result ≡ length words = first ∙ sym (length-map c.in_ok-dictionary.dictionary (λ entry. vec_items entry.0)) in
     let given : c.len-2.result ≡ length (lines_of c.args.list.now) = second ∙ sym (length-map c.in_ok-words.words.items bytes) ∙ ap length list in
     let said : c.push_counts.new.output.items ≡ c.args.output.now.items ++ counts words (lines_of c.args.list.now) =
     c.in_ok-push_counts.ensures ∙ ap (λ n. c.args.output.now.items ++ line (decimal n ++ codes " words in " ++ decimal c.len-2.result ++ codes " lines")) many
