@@ -4,7 +4,7 @@ use Rattle.std.specs.Prelude.{nat_le}
 use Rattle.std.specs.List.{AllByRecursion, list_any}
 use Rattle.std.specs.Ordering.{nat_cmp, ordering_then}
 use Rattle.std.specs.declared.cmp.Ordering.TheVariants.{Less}
-use Rattle.std.proofs.Math.Nat.{div-mul-le_self, mul-le-mul_right}
+use Rattle.std.proofs.Math.Nat.{div-mul-le_self, lt-div-mul-add, mul-le-mul_right}
 use Rattle.std.proofs.Math.Pow.{shr_mono}
 use Rattle.std.proofs.lemmas.Bool.{cases_lt, false_from_ne_true, not_from_false, not_from_true, or_from, or_left, or_right}
 use Rattle.std.proofs.lemmas.List.Elements.{All-contains, Contains-get_or, filter_passes}
@@ -12,8 +12,8 @@ use Rattle.std.proofs.lemmas.List.Folds.{list_any-from_Any, list_any_none}
 use Rattle.std.proofs.lemmas.List.Kept.{AllPairs-cons, AllPairs-filter}
 use Rattle.std.proofs.lemmas.Nat.{mod_low, pow_pos, shl-shr}
 use Rattle.art_routes.specs.declared.address.Address.{Address}
-use Rattle.art_routes.specs.FreeNetworks.{IsFree, overlaps}
-use Rattle.art_routes.specs.FreeWalks.{IsBefore, IsBehind, IsFirst, IsFreeWalk, Overlapping, free_left, is_free, part_at, parts_from, parts_up_to}
+use Rattle.art_routes.specs.FreeNetworks.{BeginsBehind, IsFree, overlaps}
+use Rattle.art_routes.specs.FreeWalks.{IsBefore, IsBehind, IsFirst, IsFreeWalk, IsNext, Overlapping, free_left, is_free, part_at, parts_from, parts_up_to}
 use Rattle.art_routes.specs.KeyLaws.{width_most}
 use Rattle.art_routes.specs.Keys.{last_network}
 use Rattle.art_routes.specs.Networks.{Block, IsNetwork, covers, contains, first_bits, network_around, network_order}
@@ -378,9 +378,6 @@ module _ {V : Type 0} (routes : List (Block × V)) (network : Block) (is : IsNet
         let bits : first_bits (network_around network.address size).address size ≡ first_place = shl-shr first_place k in
         λ i. filter (is_free routes) (parts_from network.address.width size (bits i) (suc last_place - bits i))
 
-    ascend : AllPairs (λ a b. network_order a b ≡ Less) all_left
-    ascend = AllPairs-filter (λ a b. network_order a b ≡ Less) (is_free routes) (parts_from network.address.width size first_place (suc last_place - first_place)) (parts-ascend network.address.width size first_place (suc last_place - first_place))
-
     ends-up : network.address.bits ≤ last_bits
     ends-up = omega arith
 
@@ -394,31 +391,40 @@ module _ {V : Type 0} (routes : List (Block × V)) (network : Block) (is : IsNet
       fits = (last-is network is).bits;
     }
 
-    left-free : (part : Block) → Contains all_left part → IsFree routes network size part
-    left-free part there =
-        let all = parts_from network.address.width size first_place (suc last_place - first_place) in
-        let (place, low, high, at) = is-part network.address.width size first_place (suc last_place - first_place) part (contains-kept (is_free routes) all part there) in
+    -- those from a place on, which is not before the first one
+    abbrev from_place : ℕ → List Block
+    from_place start = left (is_free routes) network.address.width size start last_place
+
+    ascend-from : (start : ℕ) → AllPairs (λ a b. network_order a b ≡ Less) (from_place start)
+    ascend-from start = AllPairs-filter (λ a b. network_order a b ≡ Less) (is_free routes) (parts_from network.address.width size start (suc last_place - start)) (parts-ascend network.address.width size start (suc last_place - start))
+
+    left-free : (start : ℕ) → first_place ≤ start → (part : Block) → Contains (from_place start) part → IsFree routes network size part × (start * 2 ^ k ≤ part.address.bits)
+    left-free start not_before part there =
+        let all = parts_from network.address.width size start (suc last_place - start) in
+        let (place, low, high, at) = is-part network.address.width size start (suc last_place - start) part (contains-kept (is_free routes) all part there) in
         let most : place ≤ last_place = omega (arith, low, high) in
         let one = part_at network.address.width size place in
         let one_is = part-network network.address.width size last_bits place is.family fits most (last-is network is).bits in
         let up = part-begins network.address.width size last_bits place is.family fits most in
-        let more : first_place * 2 ^ k ≤ place * 2 ^ k = mul-le-mul_right (2 ^ k) low in
+        let more : first_place * 2 ^ k ≤ place * 2 ^ k = mul-le-mul_right (2 ^ k) (omega (arith, not_before, low)) in
         let from : rank network ≤ rank one = omega (arith, begins, more, least) in
         let to : rank one ≤ rank (last_network network) = omega (arith, up, fits) in
-        let passes = All-contains (λ p. is_free routes p ≡ true) all_left part (filter_passes (is_free routes) all) there in
-        record {
-          is_network = subst IsNetwork at one_is;
-          of_length = ap (λ (p : Block). p.length) (sym at);
-          inside = ap (λ p. covers network p) (sym at) ∙ within-covers network one is one_is from to;
-          free = all-apart routes part passes;
-        }
+        let passes = All-contains (λ p. is_free routes p ≡ true) (from_place start) part (filter_passes (is_free routes) all) there in
+        let reaches_it : start * 2 ^ k ≤ place * 2 ^ k = mul-le-mul_right (2 ^ k) low in (
+          record {
+            is_network = subst IsNetwork at one_is;
+            of_length = ap (λ (p : Block). p.length) (sym at);
+            inside = ap (λ p. covers network p) (sym at) ∙ within-covers network one is one_is from to;
+            free = all-apart routes part passes;
+          },
+          subst (λ (p : Block). start * 2 ^ k ≤ p.address.bits) at reaches_it,
+        )
 
-    free-left : (part : Block) → IsFree routes network size part → Contains all_left part
-    free-left part free =
-        let all = parts_from network.address.width size first_place (suc last_place - first_place) in
+    free-left : (start : ℕ) (part : Block) → IsFree routes network size part → start * 2 ^ k ≤ part.address.bits → Contains (from_place start) part
+    free-left start part free reaches_it =
+        let all = parts_from network.address.width size start (suc last_place - start) in
         let over = is-over network part.address part.length free.inside in
         let widths = over.in_it.widths in
-        let from = covers-from network part is free.is_network free.inside in
         let to = covers-to network part is free.is_network free.inside in
         let none : part.address.bits % 2 ^ k ≡ 0 = (λ i. part.address.bits % 2 ^ (sym widths i - sym free.of_length i)) ∙ free.is_network.none_behind in
         let place = part.address.bits / 2 ^ k in
@@ -426,13 +432,20 @@ module _ {V : Type 0} (routes : List (Block × V)) (network : Block) (is : IsNet
           address = record { width = sym widths i; bits = none_behind part.address.bits k none i };
           length = sym free.of_length i;
         } in
-        let least_bits : network.address.bits ≤ part.address.bits = omega (arith, from, widths, free.is_network.fits, width_most network is) in
         let most_bits : part.address.bits ≤ last_bits = omega (arith, to, widths, width_most network is) in
-        let low : first_place ≤ place = shr_mono k least_bits in
+        let down = shr_mono k reaches_it in
+        let low : start ≤ place = omega (arith, down, shl-shr start k) in
         let high : place ≤ last_place = shr_mono k most_bits in
         kept-contains (is_free routes) all part
-        (subst (λ p. Contains all p) is_it (has-part network.address.width size first_place (suc last_place - first_place) place low (omega (arith, low, high))))
+        (subst (λ p. Contains all p) is_it (has-part network.address.width size start (suc last_place - start) place low (omega (arith, low, high))))
         (none-taken routes part free.free)
+
+    all-free : (part : Block) → IsFree routes network size part → Contains all_left part
+    all-free part free =
+        let widths = (is-over network part.address part.length free.inside).in_it.widths in
+        let from = covers-from network part is free.is_network free.inside in
+        let least_bits : network.address.bits ≤ part.address.bits = omega (arith, from, widths, free.is_network.fits, width_most network is) in
+        free-left first_place part free (omega (arith, least_bits, div-mul-le_self network.address.bits (2 ^ k)))
 
   -- what the walk begins with
   pub walk-starts : (next : Option Block) → IsFirst network size next → IsFreeWalk last_bits next
@@ -442,14 +455,84 @@ module _ {V : Type 0} (routes : List (Block × V)) (network : Block) (is : IsNet
   pub walk-ascends : (next : Option Block) → IsFirst network size next → AllPairs (λ a b. network_order a b ≡ Less) (free_left routes last_bits next)
   walk-ascends None outside = λ i j d less inside. absurd (omega (arith, inside))
   walk-ascends (Some first) (least, fits, at) =
-      subst (λ all. AllPairs (λ a b. network_order a b ≡ Less) all) (sym (ap (λ p. free_left routes last_bits (Some p)) at ∙ starts-left least fits)) (ascend least fits)
+      subst (λ all. AllPairs (λ a b. network_order a b ≡ Less) all) (sym (ap (λ p. free_left routes last_bits (Some p)) at ∙ starts-left least fits)) (ascend-from least fits (first_place least fits))
 
   pub walk-is-free : (next : Option Block) → IsFirst network size next → (part : Block) → Contains (free_left routes last_bits next) part → IsFree routes network size part
   walk-is-free None outside part (k, within, at) = absurd (omega (arith, within))
   walk-is-free (Some first) (least, fits, at) part there =
-      left-free least fits part (subst (λ all. Contains all part) (ap (λ p. free_left routes last_bits (Some p)) at ∙ starts-left least fits) there)
+      (left-free least fits (first_place least fits) (omega arith) part (subst (λ all. Contains all part) (ap (λ p. free_left routes last_bits (Some p)) at ∙ starts-left least fits) there)).0
 
   pub free-is-walked : (next : Option Block) → IsFirst network size next → (part : Block) → IsFree routes network size part → Contains (free_left routes last_bits next) part
   free-is-walked None outside part free = absurd (none-free outside part free)
   free-is-walked (Some first) (least, fits, at) part free =
-      subst (λ all. Contains all part) (sym (ap (λ p. free_left routes last_bits (Some p)) at ∙ starts-left least fits)) (free-left least fits part free)
+      subst (λ all. Contains all part) (sym (ap (λ p. free_left routes last_bits (Some p)) at ∙ starts-left least fits)) (all-free least fits part free)
+
+  -- those that begin behind the last address of a network inside it
+  module _ (after : Block) (after_is : IsNetwork after) (inside : covers network after ≡ true) where
+    abbrev end : Address
+    end = (last_network after).address
+
+    one_width : after.address.width ≡ network.address.width
+    one_width = (is-over network after.address after.length inside).in_it.widths
+
+    under : last_bits < 2 ^ after.address.width
+    under = subst (λ w. last_bits < 2 ^ w) (sym one_width) (last-is network is).bits
+
+    pub next-walks : (next : Option Block) → IsNext network size after next → IsFreeWalk last_bits next
+    next-walks next (inl (behind, least, fits)) = behind-walks end size last_bits next after_is.family (omega (arith, fits, one_width)) under behind
+    next-walks next (inr (none, outside)) = subst (λ n. IsFreeWalk last_bits n) (sym none) tt
+
+    module _ (least : network.length ≤ size) (fits : size ≤ network.address.width) where
+      abbrev start : ℕ
+      start = suc (end.bits / 2 ^ k least fits)
+
+      next-left : (next : Option Block) → IsBehind end size last_bits next → free_left routes last_bits next ≡ from_place least fits start
+      next-left next behind =
+          behind-left routes end size last_bits next behind
+          ∙ (λ i. left (is_free routes) (one_width i) size (suc (end.bits / 2 ^ (one_width i - size))) (last_bits / 2 ^ (one_width i - size)))
+
+      not-before : first_place least fits ≤ start
+      not-before =
+          let from = covers-from network after is after_is inside in
+          let begun : network.address.bits ≤ end.bits = omega (arith, from, one_width, after_is.fits, width_most network is) in
+          let up = shr_mono (k least fits) begun in
+          omega (arith, up)
+
+      behind-it : (part : Block) → start * 2 ^ k least fits ≤ part.address.bits → BeginsBehind after part
+      behind-it part reaches_it =
+          let high : end.bits < end.bits / 2 ^ k least fits * 2 ^ k least fits + 2 ^ k least fits = lt-div-mul-add (pow_pos (k least fits)) in
+          omega (arith, high, reaches_it)
+
+      reaches-it : (part : Block) → IsFree routes network size part → BeginsBehind after part → start * 2 ^ k least fits ≤ part.address.bits
+      reaches-it part free behind =
+          let widths = (is-over network part.address part.length free.inside).in_it.widths in
+          let none : part.address.bits % 2 ^ k least fits ≡ 0 = (λ i. part.address.bits % 2 ^ (sym widths i - sym free.of_length i)) ∙ free.is_network.none_behind in
+          let whole : part.address.bits / 2 ^ k least fits * 2 ^ k least fits ≡ part.address.bits = none_behind part.address.bits (k least fits) none in
+          by_side whole (cases_lt (end.bits / 2 ^ k least fits) (part.address.bits / 2 ^ k least fits))
+        where
+          by_side : part.address.bits / 2 ^ k least fits * 2 ^ k least fits ≡ part.address.bits
+              → (end.bits / 2 ^ k least fits < part.address.bits / 2 ^ k least fits) ⊎ (part.address.bits / 2 ^ k least fits ≤ end.bits / 2 ^ k least fits)
+              → start * 2 ^ k least fits ≤ part.address.bits
+          by_side whole (inl less) = subst (λ n. start * 2 ^ k least fits ≤ n) whole (mul-le-mul_right (2 ^ k least fits) less)
+          by_side whole (inr no_less) =
+              let low = mul-le-mul_right (2 ^ k least fits) no_less in
+              absurd (omega (arith, low, whole, behind, div-mul-le_self end.bits (2 ^ k least fits)))
+
+    pub next-ascends : (next : Option Block) → IsNext network size after next → AllPairs (λ a b. network_order a b ≡ Less) (free_left routes last_bits next)
+    next-ascends next (inl (behind, least, fits)) =
+        subst (λ all. AllPairs (λ a b. network_order a b ≡ Less) all) (sym (next-left least fits next behind)) (ascend-from least fits (start least fits))
+    next-ascends next (inr (none, outside)) =
+        subst (λ n. AllPairs (λ a b. network_order a b ≡ Less) (free_left routes last_bits n)) (sym none) (λ i j d less inside. absurd (omega (arith, inside)))
+
+    pub next-is-free : (next : Option Block) → IsNext network size after next → (part : Block) → Contains (free_left routes last_bits next) part → IsFree routes network size part × BeginsBehind after part
+    next-is-free next (inl (behind, least, fits)) part there =
+        let found = left-free least fits (start least fits) (not-before least fits) part (subst (λ all. Contains all part) (next-left least fits next behind) there) in
+        (found.0, behind-it least fits part found.1)
+    next-is-free next (inr (none, outside)) part there =
+        let (j, within, at) = subst (λ n. Contains (free_left routes last_bits n) part) none there in
+        absurd (omega (arith, within))
+
+    pub free-is-next : (next : Option Block) → IsNext network size after next → (part : Block) → IsFree routes network size part × BeginsBehind after part → Contains (free_left routes last_bits next) part
+    free-is-next next (inl (behind, least, fits)) part (free, begins_behind) =
+        subst (λ all. Contains all part) (sym (next-left least fits next behind)) (free-left least fits (start least fits) part free (reaches-it least fits part free begins_behind))
+    free-is-next next (inr (none, outside)) part (free, begins_behind) = absurd (none-free outside part free)

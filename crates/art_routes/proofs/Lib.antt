@@ -8,6 +8,7 @@ pub mod CoverLemmas
 pub mod CoveredLemmas
 pub mod CoveringLemmas
 pub mod FreeLemmas
+pub mod HalfLemmas
 pub mod KeyBytes
 pub mod MatchLemmas
 pub mod OrderLemmas
@@ -22,4 +23,6 @@ pub mod ReadLemmas
 pub mod RemovalLemmas
 pub mod PutAgainLemmas
 pub mod ThroughLemmas
+pub mod EndLemmas
 pub mod EnteredLemmas
+pub mod UpToLemmas

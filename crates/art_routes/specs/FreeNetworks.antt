@@ -1,5 +1,6 @@
 -- Networks that no route of a table overlaps.
-use Rattle.std.specs.Prelude.{◌≡◌, ℕ, Bool, true, false, ◌||◌, List, All}
+use Rattle.std.specs.Prelude.{◌≡◌, ◌<◌, ℕ, Bool, true, false, ◌||◌, List, All}
+use Rattle.art_routes.specs.Keys.{last_network}
 use Rattle.art_routes.specs.Networks.{Block, IsNetwork, covers}
 
 -- one of the networks is the other or a part of it
@@ -12,3 +13,7 @@ pub record IsFree {V : Type 0} (routes : List (Block × V)) (network : Block) (l
   pub of_length : part.length ≡ length
   pub inside : covers network part ≡ true
   pub free : All (λ route. overlaps route.0 part ≡ false) routes
+
+-- this one begins behind the last address of the other
+abbrev pub BeginsBehind : Block → Block → Type 0
+BeginsBehind other part = (last_network other).address.bits < part.address.bits

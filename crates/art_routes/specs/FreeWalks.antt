@@ -3,6 +3,7 @@ use Rattle.std.specs.Prelude.{◌≡◌, ◌⊎◌, ◌≤◌, ◌<◌, ℕ, zer
 use Rattle.std.specs.List.{list_any}
 use Rattle.art_routes.specs.declared.address.Address.{Address}
 use Rattle.art_routes.specs.FreeNetworks.{overlaps}
+use Rattle.art_routes.specs.Keys.{last_network}
 use Rattle.art_routes.specs.Networks.{Block, IsNetwork, first_bits, network_around}
 
 -- the network with these first bits, so many of them
@@ -57,3 +58,9 @@ abbrev pub IsBehind : Address → ℕ → ℕ → Option Block → Type 0
 IsBehind address length last None = last / 2 ^ (address.width - length) ≤ first_bits address length
 IsBehind address length last (Some part) =
     (first_bits address length < last / 2 ^ (address.width - length)) × (part ≡ part_at address.width length (suc (first_bits address length)))
+
+-- the first network of so many bits inside a network that begins behind the last address of another one, if there is one
+abbrev pub IsNext : Block → ℕ → Block → Option Block → Type 0
+IsNext network length after next =
+    (IsBehind (last_network after).address length (last_network network).address.bits next × (network.length ≤ length) × (length ≤ network.address.width))
+    ⊎ ((next ≡ None) × ((length < network.length) ⊎ (network.address.width < length)))

@@ -1,11 +1,13 @@
 pub mod Networks
 pub mod Tables
+pub mod UpTo
 pub mod Strides
 pub mod StrideLaws
 pub mod Keys
 pub mod Children
 pub mod KeyLaws
 pub mod Ways
+pub mod Ends
 pub mod Readings
 pub mod Lending
 pub mod Removing

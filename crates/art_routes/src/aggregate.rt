@@ -1,7 +1,8 @@
 //! Fewer routes by which each address has the same value.
-ghost use Rattle.std.specs.Prelude.{◌≡◌, ◌<◌, ◌∷◌, [], Contains, MatchOption, OnOk, Some, length};
+ghost use Rattle.std.specs.Prelude.{◌≡◌, ◌<◌, ◌∷◌, [], Contains, MatchOption, OnErr, OnOk, Some, length};
+ghost use Rattle.art_nodes.specs.declared.pointers.OpaqueNodePtr.{OpaqueNodePtr as Pointer};
 ghost use Rattle.art_routes.specs.AggregateSteps.{FewerOr, IsCovered, IsHalf, SaysOfHalf, SaysOfParent, left_behind};
-ghost use Rattle.art_routes.specs.Aggregates.{IsAggregated, IsNeeded, MatchAlike};
+ghost use Rattle.art_routes.specs.Aggregates.{IsAggregated, IsNeeded, MatchAlike, NeedsMemory};
 ghost use Rattle.art_routes.specs.Networks.{Block, IsNetwork};
 ghost use Rattle.art_routes.specs.Tables.{without_route};
 ghost use Rattle.art_routes.specs.declared.address.Address.{Address};
@@ -10,6 +11,7 @@ use crate::difference::are_equal;
 use crate::network::{Network, network_at, parts};
 use crate::routes::Routes;
 use crate::table::RouteTable;
+use crate::way::PREFIX_LEN;
 use std::alloc::AllocError;
 
 // The other half of the network around this one, and that network, where this is the right half.
@@ -76,6 +78,7 @@ impl<V: Copy + PartialEq> RouteTable<V> {
         ensures same_matches { (address : Address) → MatchAlike V.eq self.old self.new address }
         ensures fewer { OnOk result (length self.new < length self.old) }
         ensures routes { OnOk result (self.new ≡ without_route self.old network.now) }
+        ensures refused { OnErr result (NeedsMemory V.eq (Pointer Block V PREFIX_LEN) self.new) }
     {
         self.routes_ascend();
         self.remove(network)?;
@@ -94,6 +97,7 @@ impl<V: Copy + PartialEq> RouteTable<V> {
         requires left { SaysOfHalf V.eq self.old right.now value (Some (left.now, whole)) }
         ensures same_matches { (address : Address) → MatchAlike V.eq self.old self.new address }
         ensures fewer { OnOk result (length self.new < length self.old) }
+        ensures refused { OnErr result (NeedsMemory V.eq (Pointer Block V PREFIX_LEN) self.new) }
     {
         self.routes_ascend();
         match self.insert(whole, value) {
@@ -113,6 +117,7 @@ impl<V: Copy + PartialEq> RouteTable<V> {
         requires listed { Contains self.old (network.now, value) }
         ensures same_matches { (address : Address) → MatchAlike V.eq self.old self.new address }
         ensures fewer { OnOk result (FewerOr self.old self.new (λ routes. IsNeeded V.eq routes (network.now, value))) }
+        ensures refused { OnErr result (NeedsMemory V.eq (Pointer Block V PREFIX_LEN) self.new) }
     {
         if self.parent_has(network, &value) {
             return self.remove_repeated(network);
@@ -139,6 +144,7 @@ impl<V: Copy + PartialEq> RouteTable<V> {
     fn pass(&mut self) -> Result<(), AllocError>
         ensures same_matches { (address : Address) → MatchAlike V.eq self.old self.new address }
         ensures fewer { OnOk result (FewerOr self.old self.new (λ routes. IsAggregated V.eq routes)) }
+        ensures refused { OnErr result (NeedsMemory V.eq (Pointer Block V PREFIX_LEN) self.new) }
     {
         let mut after = None;
         'each: while let Some(route) = self.route_behind(after) {
@@ -153,7 +159,9 @@ impl<V: Copy + PartialEq> RouteTable<V> {
     /// network that have one value, until no route is left of which that is so. The longest match of each address has
     /// the value that it had, by `==`, and where none did none does.
     ///
-    /// Only an allocation failure refuses it. Some of this may then be done: the matches have their values as before.
+    /// Only an allocation failure refuses it, of a route that is put for two halves whose network has none, or, as that of
+    /// a [`remove`](Self::remove), of a route that is dropped. Some of this may then be done: the matches have their values
+    /// as before. So it is never refused where there is nothing to do.
     ///
     /// Goes along the table until nothing changes, since what is put for two halves may be a half itself: mostly a few
     /// times. Each time a route costs a [`parent`](Self::parent) and at most one [`get`](Self::get).
@@ -165,6 +173,7 @@ impl<V: Copy + PartialEq> RouteTable<V> {
     pub fn aggregate(&mut self) -> Result<(), AllocError>
         ensures same_matches { (address : Address) → MatchAlike V.eq self.old self.new address }
         ensures aggregated { OnOk result (IsAggregated V.eq self.new) }
+        ensures refused { OnErr result (NeedsMemory V.eq (Pointer Block V PREFIX_LEN) self.new) }
     {
         'passes: loop {
             self.routes_ascend();

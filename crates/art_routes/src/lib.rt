@@ -8,6 +8,7 @@ mod aggregate;
 mod children;
 mod covering;
 mod difference;
+mod ends;
 mod fault;
 mod free;
 mod holds_routes;

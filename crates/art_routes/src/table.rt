@@ -8,6 +8,7 @@ ghost use Rattle.art_routes.specs.Keys.{key_text};
 ghost use Rattle.art_routes.specs.Lending.{LendsRoute};
 ghost use Rattle.art_routes.specs.Networks.{Block, IsNetwork, address_of, covers};
 ghost use Rattle.art_routes.specs.Tables.{AreInOrder, at_or_after, behind, children as children_of, covered as covered_routes, covering as covering_routes, IsFirstToNetwork, IsLongest, IsLongestOver, IsParent, IsShortest, NoneAround, NoneContains, NoneCovers, put_route, put_routes, route_now, value_of, without_route};
+ghost use Rattle.art_routes.specs.UpTo.{ahead, at_or_before};
 
 use crate::address::{Address, number_of};
 use crate::children::{Children, ChildrenOver};
@@ -208,6 +209,35 @@ impl<V> RouteTable<V> {
         let first = key_of(network);
         RoutesOver {
             entries: self.routes.range(Bound::Excluded(&first), Bound::Unbounded),
+            value: PhantomData,
+        }
+    }
+
+    /// The routes to this network and to those before it, in order, and from the back in the opposite order: so the first
+    /// from the back is the last one up to a network. Costs as much as [`covered`](Self::covered). Takes no memory.
+    ///
+    /// (from tests/art_routes/tests.rt.txt)
+    /// ```rust
+    /// assert!(rt; is_value(table.iter_to(&ten).next_back(), 2));
+    /// assert!(rt; is_value(table.iter_before(&ten).next_back(), 1));
+    /// ```
+    pub fn iter_to(&self, network: &Network) -> Routes<'_, V>
+        ensures { result ≡ at_or_before network.now self.now }
+    {
+        let last = key_of(network);
+        RoutesOver {
+            entries: self.routes.range(Bound::Unbounded, Bound::Included(&last)),
+            value: PhantomData,
+        }
+    }
+
+    /// The routes to the networks before this one, as [`iter_to`](Self::iter_to).
+    pub fn iter_before(&self, network: &Network) -> Routes<'_, V>
+        ensures { result ≡ ahead network.now self.now }
+    {
+        let last = key_of(network);
+        RoutesOver {
+            entries: self.routes.range(Bound::Unbounded, Bound::Excluded(&last)),
             value: PhantomData,
         }
     }

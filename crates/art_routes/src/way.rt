@@ -7,15 +7,19 @@ ghost use Rattle.art_routes.specs.Keys.{key_text};
 ghost use Rattle.art_tree.specs.Art.{IsArt};
 ghost use Rattle.art_tree.specs.Dictionary.{HasKeys};
 ghost use Rattle.art_tree.specs.Entries.{entries_of};
+ghost use Rattle.art_routes.specs.Ends.{HasChild, IsNextChild, NoEndOf};
 ghost use Rattle.art_routes.specs.Networks.{IsNetwork};
 ghost use Rattle.art_routes.specs.Readings.{most_visits};
 ghost use Rattle.art_routes.specs.Tables.{IsLongestOver, IsShortest, NoneContains, NoneCovers, route_now};
 ghost use Rattle.art_routes.specs.Ways.{IsEndAt, IsEndRoute, IsFirstEnd, IsLastEnd, IsLongestBelow, IsShortestBelow, IsWayTree, NoEnd, NoneBelow};
 
 use crate::address::Address;
+use crate::ends::{longest_end, next_end, shorter};
 use crate::network::{Network, covers_bits};
 use crate::route_key::{RouteKey, TEXT_LEN, end_byte, network_from, text_of};
-use art_tree::{ArenaReader, InnerNodeRead, InnerRef, NodeRef, OpaqueNodePtr, laws};
+use art_tree::{
+    ArenaReader, InnerNodeRead, InnerNodeSorted, InnerRef, NodeRef, OpaqueNodePtr, laws,
+};
 
 /// How many bytes of its prefix a node stores: all of it, since no key has more.
 pub(crate) const PREFIX_LEN: usize = TEXT_LEN;
@@ -40,28 +44,70 @@ fn ends_at(most: u8, place: usize) -> u8
     (most - before + 1).min(7)
 }
 
+// The child of a sorted node under the first of a byte and those of ever fewer bits that has one.
+fn last_sorted<V, const SIZE: usize>(
+    node: &InnerNodeSorted<RouteKey, V, PREFIX_LEN, SIZE>,
+    longest: u8,
+) -> Option<RouteNode<V>>
+    ensures none { IfNone result (NoEndOf (HasChild node.now.children) longest) }
+    ensures some { IfSome result (IsNextChild node.now.children longest) }
+{
+    let _sound = node.header();
+    let (bytes, _) = node.initialized_portion();
+    let end = next_end(bytes, longest)?;
+    node.lookup_child(end)
+}
+
+// The same of any node, one byte after another.
+fn last_looked_up<V>(
+    node: &InnerRef<'_, RouteKey, V, PREFIX_LEN>,
+    longest: u8,
+) -> Option<RouteNode<V>>
+    ensures none { IfNone result (NoEndOf (HasChild (inner_shown node.now).children) longest) }
+    ensures some { IfSome result (IsNextChild (inner_shown node.now).children longest) }
+{
+    let mut end = longest;
+    'down: loop {
+        if let Some(child) = node.lookup_child(end) {
+            return Some(child);
+        }
+        if end == 0 {
+            return None;
+        }
+        end = shorter(end);
+    }
+}
+
+// The same, however the node keeps its children.
+fn next_child<V>(node: &InnerRef<'_, RouteKey, V, PREFIX_LEN>, longest: u8) -> Option<RouteNode<V>>
+    ensures none { IfNone result (NoEndOf (HasChild (inner_shown node.now).children) longest) }
+    ensures some { IfSome result (IsNextChild (inner_shown node.now).children longest) }
+{
+    match *node {
+        InnerRef::Node4(node) => last_sorted(node, longest),
+        InnerRef::Node16(node) => last_sorted(node, longest),
+        InnerRef::Node48(_) | InnerRef::Node256(_) => last_looked_up(node, longest),
+    }
+}
+
 // The child of the longest route around an address that ends at this place of its key.
 fn last_end<V>(
     node: &InnerRef<'_, RouteKey, V, PREFIX_LEN>,
     address: Address,
     most: u8,
+    key: &[u8],
     place: usize,
 ) -> Option<RouteNode<V>>
-    requires most { most ≤ 128 }
     requires family { (address.width ≡ 32) ⊎ (address.width ≡ 128) }
     requires fits { address.bits < 2 ^ address.width }
+    requires within { most ≤ address.width }
+    requires key { key.now ≡ key_text (record { address = address; length = most }) }
     requires place { place ≤ 20 }
     ensures none { IfNone result (NoEnd address most place (inner_shown node.now).children) }
     ensures some { IfSome result (IsLastEnd address most place (inner_shown node.now).children) }
 {
-    let mut count = ends_at(most, place);
-    'ends: while count > 0 {
-        count -= 1;
-        if let Some(child) = node.lookup_child(end_byte(address, place - 1, count)) {
-            return Some(child);
-        }
-    }
-    None
+    let longest = longest_end(key, place)?;
+    next_child(node, longest)
 }
 
 // The child of the shortest route around an address that ends at this place of its key.
@@ -114,11 +160,13 @@ fn route_at_end<'a, V>(
     node: &InnerRef<'a, RouteKey, V, PREFIX_LEN>,
     address: Address,
     most: u8,
+    key: &[u8],
     place: usize,
 ) -> Option<(Network, &'a V)>
-    requires most { most ≤ 128 }
     requires family { (address.width ≡ 32) ⊎ (address.width ≡ 128) }
     requires fits { address.bits < 2 ^ address.width }
+    requires within { most ≤ address.width }
+    requires key { key.now ≡ key_text (record { address = address; length = most }) }
     requires place { place ≤ 20 }
     requires leaf { (child : _) → IsLastEnd address most place (inner_shown node.now).children child →
         (leaf : _) × (held reader.old.arena child ≡ HeldLeaf leaf) }
@@ -129,7 +177,7 @@ fn route_at_end<'a, V>(
         (λ route. reader.new.budget + 1 ≡ reader.old.budget) }
     ensures same_arena { reader.new.arena ≡ reader.old.arena }
 {
-    let child = last_end(node, address, most, place)?;
+    let child = last_end(node, address, most, key, place)?;
     match reader.look(child) {
         NodeRef::LeafNode(leaf) => Some((network_from(leaf.key_ref()), leaf.value_ref())),
         _ => None,
@@ -173,14 +221,14 @@ pub(crate) fn longest_below<'a, V>(
     let inner = node.inner()?;
     let place = place_behind(&inner, key, depth)?;
     if key.len() <= place + 1 {
-        return route_at_end(reader, &inner, address, most, place);
+        return route_at_end(reader, &inner, address, most, key, place);
     }
     let Some(child) = inner.lookup_child(key[place]) else {
-        return route_at_end(reader, &inner, address, most, place);
+        return route_at_end(reader, &inner, address, most, key, place);
     };
     match longest_below(reader, child, address, most, key, place + 1) {
         Some(found) => Some(found),
-        None => route_at_end(reader, &inner, address, most, place),
+        None => route_at_end(reader, &inner, address, most, key, place),
     }
 }
 

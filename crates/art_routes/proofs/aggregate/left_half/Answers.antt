@@ -1,7 +1,7 @@
 use Rattle.std.proofs.Common.{◌≡◌, ◌∙◌, ◌<◌, ◌-◌, ap, arith, subst, sym}
 use Rattle.art_routes.specs.Aggregates.{AreHalves}
 use Rattle.art_routes.specs.Networks.{Block, IsNetwork, network_around}
-use Rattle.art_routes.proofs.AggregateLemmas.{left-half}
+use Rattle.art_routes.proofs.HalfLemmas.{left-half}
 use Rattle.art_routes.proofs.aggregate.left_half.Goals as goal
 
 -- the networks that are found, and those of the lemma

@@ -48,8 +48,7 @@ route_at_end-requires g t c =
     let (tree, is) = c.requires.tree in
     let width = family_most c.args.address.width c.requires.family in
     let long = key-length c.args.address c.args.most c.requires.family c.requires.fits c.requires.within c.args.key.now c.requires.key in
-    let most : c.args.most ≤ 128 = omega (arith, width, c.requires.within) in
-    let place : c.in_ok-place.place ≤ 20 = omega (arith, long, most, c.in_ok-place.ensures.within) in (
+    let place : c.in_ok-place.place ≤ 20 = omega (arith, width, c.requires.within, long, c.in_ok-place.ensures.within) in (
       search rules,
       (
         search rules,
@@ -60,16 +59,19 @@ route_at_end-requires g t c =
             (
               search rules,
               (
-                most,
+                c.requires.family,
                 (
-                  c.requires.family,
+                  c.requires.fits,
                   (
-                    c.requires.fits,
+                    c.requires.within,
                     (
-                      place,
+                      c.requires.key,
                       (
-                        (λ child end. end-leaf-now c.args.address c.args.most c.requires.family c.requires.fits c.requires.within c.args.key.now c.requires.key room c.args.reader.now.arena c.args.depth c.requires.depth c.args.at tree is (inner_shown c.in_ok-inner.inner) holds c.in_ok-place.place c.in_ok-place.ensures.place c.in_ok-place.ensures.matched c.look-node.new.self.arena (c.look-node.ensures.same_arena) child end),
-                        omega (arith, c.look-node.ensures.counted, c.requires.budget, c.requires.depth),
+                        place,
+                        (
+                          (λ child end. end-leaf-now c.args.address c.args.most c.requires.family c.requires.fits c.requires.within c.args.key.now c.requires.key room c.args.reader.now.arena c.args.depth c.requires.depth c.args.at tree is (inner_shown c.in_ok-inner.inner) holds c.in_ok-place.place c.in_ok-place.ensures.place c.in_ok-place.ensures.matched c.look-node.new.self.arena (c.look-node.ensures.same_arena) child end),
+                          omega (arith, c.look-node.ensures.counted, c.requires.budget, c.requires.depth),
+                        ),
                       ),
                     ),
                   ),
@@ -99,8 +101,7 @@ route_at_end-requires-in_default-lookup_child g t c =
     let (tree, is) = c.requires.tree in
     let width = family_most c.args.address.width c.requires.family in
     let long = key-length c.args.address c.args.most c.requires.family c.requires.fits c.requires.within c.args.key.now c.requires.key in
-    let most : c.args.most ≤ 128 = omega (arith, width, c.requires.within) in
-    let place : c.in_ok-place.place ≤ 20 = omega (arith, long, most, c.in_ok-place.ensures.within) in (
+    let place : c.in_ok-place.place ≤ 20 = omega (arith, width, c.requires.within, long, c.in_ok-place.ensures.within) in (
       search rules,
       (
         search rules,
@@ -111,16 +112,19 @@ route_at_end-requires-in_default-lookup_child g t c =
             (
               search rules,
               (
-                most,
+                c.requires.family,
                 (
-                  c.requires.family,
+                  c.requires.fits,
                   (
-                    c.requires.fits,
+                    c.requires.within,
                     (
-                      place,
+                      c.requires.key,
                       (
-                        (λ child end. end-leaf-now c.args.address c.args.most c.requires.family c.requires.fits c.requires.within c.args.key.now c.requires.key room c.args.reader.now.arena c.args.depth c.requires.depth c.args.at tree is (inner_shown c.in_ok-inner.inner) holds c.in_ok-place.place c.in_ok-place.ensures.place c.in_ok-place.ensures.matched c.look-node.new.self.arena (c.look-node.ensures.same_arena) child end),
-                        omega (arith, c.look-node.ensures.counted, c.requires.budget, c.requires.depth),
+                        place,
+                        (
+                          (λ child end. end-leaf-now c.args.address c.args.most c.requires.family c.requires.fits c.requires.within c.args.key.now c.requires.key room c.args.reader.now.arena c.args.depth c.requires.depth c.args.at tree is (inner_shown c.in_ok-inner.inner) holds c.in_ok-place.place c.in_ok-place.ensures.place c.in_ok-place.ensures.matched c.look-node.new.self.arena (c.look-node.ensures.same_arena) child end),
+                          omega (arith, c.look-node.ensures.counted, c.requires.budget, c.requires.depth),
+                        ),
                       ),
                     ),
                   ),
@@ -164,8 +168,7 @@ route_at_end-requires-in-None g t c =
     let (tree, is) = c.requires.tree in
     let width = family_most c.args.address.width c.requires.family in
     let long = key-length c.args.address c.args.most c.requires.family c.requires.fits c.requires.within c.args.key.now c.requires.key in
-    let most : c.args.most ≤ 128 = omega (arith, width, c.requires.within) in
-    let place : c.in_ok-place.place ≤ 20 = omega (arith, long, most, c.in_ok-place.ensures.within) in (
+    let place : c.in_ok-place.place ≤ 20 = omega (arith, width, c.requires.within, long, c.in_ok-place.ensures.within) in (
       search rules,
       (
         search rules,
@@ -176,16 +179,19 @@ route_at_end-requires-in-None g t c =
             (
               search rules,
               (
-                most,
+                c.requires.family,
                 (
-                  c.requires.family,
+                  c.requires.fits,
                   (
-                    c.requires.fits,
+                    c.requires.within,
                     (
-                      place,
+                      c.requires.key,
                       (
-                        (λ child end. end-leaf-now c.args.address c.args.most c.requires.family c.requires.fits c.requires.within c.args.key.now c.requires.key room c.args.reader.now.arena c.args.depth c.requires.depth c.args.at tree is (inner_shown c.in_ok-inner.inner) holds c.in_ok-place.place c.in_ok-place.ensures.place c.in_ok-place.ensures.matched c.longest_below.new.reader.arena (c.longest_below.ensures.same_arena ∙ c.look-node.ensures.same_arena) child end),
-                        omega (arith, c.look-node.ensures.counted, c.requires.budget, c.in_ok-place.ensures.place, c.in-None.ensures.visits, c.if-key-place.false),
+                        place,
+                        (
+                          (λ child end. end-leaf-now c.args.address c.args.most c.requires.family c.requires.fits c.requires.within c.args.key.now c.requires.key room c.args.reader.now.arena c.args.depth c.requires.depth c.args.at tree is (inner_shown c.in_ok-inner.inner) holds c.in_ok-place.place c.in_ok-place.ensures.place c.in_ok-place.ensures.matched c.longest_below.new.reader.arena (c.longest_below.ensures.same_arena ∙ c.look-node.ensures.same_arena) child end),
+                          omega (arith, c.look-node.ensures.counted, c.requires.budget, c.in_ok-place.ensures.place, c.in-None.ensures.visits, c.if-key-place.false),
+                        ),
                       ),
                     ),
                   ),

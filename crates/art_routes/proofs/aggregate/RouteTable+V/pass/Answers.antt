@@ -10,7 +10,7 @@ each-init g c = (λ address. alike-itself g.V.PartialEq.eq c.args.self.now addre
 pub step-requires : goal.step-requires
 step-requires g c =
     let (rest, next) = c.in-Some.ensures in
-    (search rules, (search rules, (search rules, (search rules, (search rules, (search rules, next-listed g.V.PartialEq.eq c.each.self c.routes_ascend.ensures.order c.each.after c.in-Some.route rest next))))))
+    (search rules, (search rules, (search rules, (search rules, (search rules, next-listed g.V.PartialEq.eq c.each.self c.routes_ascend.ensures.order c.each.after c.in-Some.route rest next)))))
 
 pub returns-in_err-step-clause-same_matches : goal.returns-in_err-step-clause-same_matches
 returns-in_err-step-clause-same_matches g c = λ address.

@@ -22,11 +22,8 @@ retain-result-requires g c = (
           search rules,
           (
             search rules,
-            (
-              search rules,
-              callable-through _ g.F.FnMut (λ s. s.0.now) (λ s p q b left s' call. call.met.1) (λ s p q takes. takes) _ _
-                  (subst (CallableOnEachPair (CalledAtPair g.F.FnMut) (TakesPair g.F.FnMut) c.args.f) (sym c.self.view_is) c.requires),
-            ),
+            callable-through _ g.F.FnMut (λ s. s.0.now) (λ s p q b left s' call. call.met.1) (λ s p q takes. takes) _ _
+                (subst (CallableOnEachPair (CalledAtPair g.F.FnMut) (TakesPair g.F.FnMut) c.args.f) (sym c.self.view_is) c.requires),
           ),
         ),
       ),

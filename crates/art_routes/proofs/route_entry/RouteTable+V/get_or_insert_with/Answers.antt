@@ -7,12 +7,12 @@ use Rattle.art_routes.proofs.route_entry.RouteTable+V.get_or_insert_with.Goals a
 
 pub invariant_of-self-lent : goal.invariant_of-self-lent
 invariant_of-self-lent g c = λ w.
-    let is = (c.get_or_insert_with.follows.holds w (ap is_ok c.in-Ok.is)).0 in
+    let is = c.get_or_insert_with.follows.holds w (ap is_ok c.in-Ok.is) in
     subst (λ es. AreNetworks es) (sym is) (set-networks c.self.inside.routes c.args.self.now c.self.view_is c.self.invariant c.key_of.result c.args.network c.key_of.ensures.network c.key_of.ensures.key w)
 
 pub invariant_of-self-in-Err : goal.invariant_of-self-in-Err
 invariant_of-self-in-Err g c =
-    let same = (err-there c.get_or_insert_with.result c.in-Err.fault _ c.in-Err.is c.get_or_insert_with.follows.holds-at-none).0 in
+    let same = err-there c.get_or_insert_with.result c.in-Err.fault _ c.in-Err.is c.get_or_insert_with.follows.holds-at-none in
     subst (λ es. AreNetworks es) (sym same) c.self.invariant
 
 pub returns-in-Ok : goal.returns-in-Ok
@@ -24,7 +24,7 @@ returns-in-Ok g c =
     let written = c.key_of.ensures in (
       (
         refl,
-        λ w ok. (c.get_or_insert_with.follows.holds w (ap is_ok c.in-Ok.is)).0
+        λ w ok. c.get_or_insert_with.follows.holds w (ap is_ok c.in-Ok.is)
             ∙ set-at entries routes c.self.view_is c.self.invariant key network written.network written.key (subst (λ rs. AreInOrder rs) c.self.view_is c.routes_ascend.ensures.order) (subst (λ rs. AreNetworks rs) c.self.view_is c.routes_ascend.ensures.networks) w,
         tt,
       ),
@@ -46,7 +46,7 @@ returns-in-Err g c =
       (
         refl,
         λ w ok. let wrong : false ≡ true = ok in absurd (cc),
-        (err-there c.get_or_insert_with.result c.in-Err.fault _ c.in-Err.is c.get_or_insert_with.follows.holds-at-none).0 ∙ c.self.view_is,
+        err-there c.get_or_insert_with.result c.in-Err.fault _ c.in-Err.is c.get_or_insert_with.follows.holds-at-none ∙ c.self.view_is,
       ),
       record {
         writes_back = tt;
