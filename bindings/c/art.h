@@ -16,10 +16,10 @@
      that divides its size.
 
    Calls that return uint32_t return one of ART_*. `before`, `value` and the key are written only at ART_SOME,
-   `key_len` at ART_SOME and ART_SMALL_BUFFER. A call that only looks needs memory for a key, or a prefix, of more
-   than 256 bytes, and never for a shorter one. Only art_bytes_insert,
-   art_bytes_insert_many and art_bytes_load return ART_KEY_TOO_LONG: for a key of 2^32 - 2
-   bytes or more the inserts without a look at one of them, and none after it took memory. */
+   `key_len` at ART_SOME and ART_SMALL_BUFFER. Of maps only new, load, and insert and insert_many of a key that is not
+   there take memory, and return ART_NO_MEMORY where it is refused: look-ups take none, and removals and pops are never
+   refused. Only art_bytes_insert, art_bytes_insert_many and art_bytes_load return ART_KEY_TOO_LONG, before they take
+   memory for that key. */
 #ifndef ART_H
 #define ART_H
 #include <stdbool.h>
@@ -30,22 +30,24 @@ extern "C" {
 #endif
 
 #define ART_VERSION_MAJOR 0u
-#define ART_VERSION_MINOR 1u
+#define ART_VERSION_MINOR 2u
 #define ART_VERSION_PATCH 0u
 #define ART_VERSION (ART_VERSION_MAJOR * 10000u + ART_VERSION_MINOR * 100u + ART_VERSION_PATCH)
 
 #define ART_NONE 0u         /* done; there was no such entry */
 #define ART_SOME 1u         /* done; there was one, and it is written out */
 #define ART_NO_MEMORY 2u    /* nothing has changed, but where the call says so */
-#define ART_KEY_TOO_LONG 3u /* nothing has changed; the key has 2^32 bytes or more, each zero twice and 2 more */
+#define ART_KEY_TOO_LONG 3u /* nothing has changed; the key has more than 3817748704 bytes */
 #define ART_SMALL_BUFFER 4u /* nothing has changed; there is an entry; its key has *key_len bytes, and none was written */
 #define ART_NO_MAP 5u       /* nothing has changed; the handle holds no map */
 #define ART_HAS_MAP 6u      /* nothing has changed; the handle given to `new` holds a map */
 #define ART_NOT_EMPTY 7u    /* nothing has changed; the map given to `load` has entries */
 #define ART_NOT_ASCENDING 8u /* nothing has changed; some key given to `load` is not below the next one */
 #define ART_BAD_NETWORK 9u  /* nothing has changed; these bytes and this length are no network */
-#define ART_NO_COUNT SIZE_MAX
 #define ART_NO_ROUTE UINT8_MAX /* in place of a length: no route contains the address */
+#define ART_INSERT 0u       /* a change: the first table has no route to the network, the second has one */
+#define ART_REMOVE 1u       /* the first has one, the second has none */
+#define ART_REPLACE 2u      /* both have one, with other values */
 
 typedef struct { void *opaque; } art_bytes_map;
 typedef struct { void *opaque; } art_u64_map;
@@ -59,11 +61,6 @@ uint32_t art_bytes_new(art_bytes_map *map);
 void art_bytes_free(art_bytes_map *map);
 size_t art_bytes_len(const art_bytes_map *map);
 void art_bytes_clear(art_bytes_map *map);
-/* Takes memory for so many inserts of new keys, or removals: these then take none, but for their keys. */
-uint32_t art_bytes_reserve(art_bytes_map *map, size_t additional);
-/* Puts the entries in order of their keys into memory that just holds them. While it runs it takes memory for the
-   map twice, and for the entries once more; where that is refused, nothing has changed. */
-uint32_t art_bytes_compact(art_bytes_map *map);
 uint32_t art_bytes_insert(art_bytes_map *map, const uint8_t *key, size_t len, uint64_t value, uint64_t *before);
 uint32_t art_bytes_get(const art_bytes_map *map, const uint8_t *key, size_t len, uint64_t *value);
 uint32_t art_bytes_remove(art_bytes_map *map, const uint8_t *key, size_t len, uint64_t *value);
@@ -91,8 +88,7 @@ uint32_t art_bytes_previous_many(const art_bytes_map *map, const uint8_t *prefix
                                  uint64_t *values, size_t values_len, size_t *count, size_t *key_len);
 /* Looks up many keys, which lie as next_many writes them: the key `i` ends before keys[ends[i]], and begins where the one
    before it ends. As many as the shortest of `ends`, `found` and `values` holds, how many `count` says. found[i] is 1, and
-   values[i] the value, where there is an entry; else found[i] is 0, and values[i] as it was. ART_NONE, or ART_NO_MEMORY at
-   the first that is refused. */
+   values[i] the value, where there is an entry; else found[i] is 0, and values[i] as it was. ART_NONE, but for ART_NO_MAP. */
 uint32_t art_bytes_get_many(const art_bytes_map *map, const uint8_t *keys, size_t keys_len, const size_t *ends,
                             size_t ends_len, uint8_t *found, size_t found_len, uint64_t *values, size_t values_len,
                             size_t *count);
@@ -101,9 +97,8 @@ uint32_t art_bytes_get_many(const art_bytes_map *map, const uint8_t *keys, size_
 uint32_t art_bytes_insert_many(art_bytes_map *map, const uint8_t *keys, size_t keys_len, const size_t *ends,
                                size_t ends_len, const uint64_t *values, size_t values_len, size_t *done);
 /* Puts many entries, whose keys lie so and ascend, into a map without entries, as many as the shorter of both arrays
-   holds: all of them, or none. They lie in memory in the order of their keys, as after compact; what memory the map has
-   kept is freed. ART_NONE, or the first of ART_NOT_EMPTY, ART_NOT_ASCENDING, ART_KEY_TOO_LONG and ART_NO_MEMORY. It takes
-   memory for the entries once more while it runs. */
+   holds: all of them, or none. ART_NONE, or the first of ART_NOT_EMPTY, ART_NOT_ASCENDING, ART_KEY_TOO_LONG and
+   ART_NO_MEMORY. */
 uint32_t art_bytes_load(art_bytes_map *map, const uint8_t *keys, size_t keys_len, const size_t *ends, size_t ends_len,
                         const uint64_t *values, size_t values_len);
 uint32_t art_bytes_first(const art_bytes_map *map, uint8_t *key_out, size_t capacity, size_t *key_len, uint64_t *value);
@@ -111,18 +106,13 @@ uint32_t art_bytes_last(const art_bytes_map *map, uint8_t *key_out, size_t capac
 /* The same, and the entry is removed where its key fits (ART_SOME). */
 uint32_t art_bytes_pop_first(art_bytes_map *map, uint8_t *key_out, size_t capacity, size_t *key_len, uint64_t *value);
 uint32_t art_bytes_pop_last(art_bytes_map *map, uint8_t *key_out, size_t capacity, size_t *key_len, uint64_t *value);
-/* How many keys begin with a prefix, or ART_NO_COUNT where memory for the prefix is refused. */
+/* How many keys begin with a prefix. */
 size_t art_bytes_count_prefix(const art_bytes_map *map, const uint8_t *prefix, size_t len);
 
-/* Only new, reserve, compact, load, pops, insert and insert_many of a key that is not there, and remove of one that is,
-   may return ART_NO_MEMORY. */
 uint32_t art_u64_new(art_u64_map *map);
 void art_u64_free(art_u64_map *map);
 size_t art_u64_len(const art_u64_map *map);
 void art_u64_clear(art_u64_map *map);
-/* Both as of bytes; a number takes no memory as a key. */
-uint32_t art_u64_reserve(art_u64_map *map, size_t additional);
-uint32_t art_u64_compact(art_u64_map *map);
 uint32_t art_u64_insert(art_u64_map *map, uint64_t key, uint64_t value, uint64_t *before);
 uint32_t art_u64_get(const art_u64_map *map, uint64_t key, uint64_t *value);
 uint32_t art_u64_remove(art_u64_map *map, uint64_t key, uint64_t *value);
@@ -155,16 +145,21 @@ uint32_t art_u64_load(art_u64_map *map, const uint64_t *keys, size_t keys_len, c
    an address and how many of its first bits are given, with no bit set behind these. Else the status is ART_BAD_NETWORK. IPv4
    and IPv6 never match each other. Networks of IPv4 come before those of IPv6; then they go by their addresses, and of two
    with one address the shorter comes first. Only new, reserve, compact, insert where no route is to the network,
-   remove where one is, remove_covered where one is to it or to a part of it, and aggregate may return ART_NO_MEMORY. */
+   get_or_insert where none is, remove where one is, remove_covered where one is to it or to a part of it, and aggregate may return ART_NO_MEMORY. */
 uint32_t art_routes_new(art_routes_map *map);
 void art_routes_free(art_routes_map *map);
 size_t art_routes_len(const art_routes_map *map);
 void art_routes_clear(art_routes_map *map);
-/* Both as of bytes; a route takes no memory for its network. */
+/* Takes memory for so many inserts of new routes, or removals: these then take none. */
 uint32_t art_routes_reserve(art_routes_map *map, size_t additional);
+/* Puts the routes in order of their networks into memory that just holds them. While it runs it takes memory for the
+   table twice, and for the routes once more; where that is refused, nothing has changed. */
 uint32_t art_routes_compact(art_routes_map *map);
 uint32_t art_routes_insert(art_routes_map *map, const uint8_t *address, size_t width, uint8_t length, uint64_t value,
                            uint64_t *before);
+/* The value of the route to this very network, as it was there (ART_SOME), or this one, which is then set (ART_NONE). */
+uint32_t art_routes_get_or_insert(art_routes_map *map, const uint8_t *address, size_t width, uint8_t length,
+                                  uint64_t value, uint64_t *found);
 /* The value of the route to this very network. */
 uint32_t art_routes_get(const art_routes_map *map, const uint8_t *address, size_t width, uint8_t length, uint64_t *value);
 uint32_t art_routes_remove(art_routes_map *map, const uint8_t *address, size_t width, uint8_t length, uint64_t *value);
@@ -194,10 +189,30 @@ uint32_t art_routes_parent(const art_routes_map *map, const uint8_t *address, si
 uint32_t art_routes_next(const art_routes_map *map, const uint8_t *from, size_t from_width, uint8_t from_length,
                          bool inclusive, uint8_t *address, size_t capacity, size_t *width, uint8_t *length,
                          uint64_t *value);
+/* The last route at (inclusive) or before a network; the last of all from the last address of IPv6, of length 128. */
+uint32_t art_routes_previous(const art_routes_map *map, const uint8_t *to, size_t to_width, uint8_t to_length,
+                             bool inclusive, uint8_t *address, size_t capacity, size_t *width, uint8_t *length,
+                             uint64_t *value);
 /* The routes to a network and to those around it, the longest first: as many as the shorter of both arrays holds, how many
    `count` says, of at most 129. ART_NONE, but for ART_BAD_NETWORK and ART_NO_MAP. */
 uint32_t art_routes_covering(const art_routes_map *map, const uint8_t *address, size_t width, uint8_t length,
                              uint8_t *lengths, size_t lengths_len, uint64_t *values, size_t values_len, size_t *count);
+/* The free networks of `part_length` bits inside a network, in order: none of them is a network that has a route, or part of
+   one, or has one inside. Writes their addresses, of `width` bytes each, one behind another: as many as fit, how many `count`
+   says. The walk begins with the first where `after_width` is 0, and else behind the network of `part_length` bits with the
+   address `after`, which is inside the network: so the last address written leads to the next ones. ART_NONE, but for
+   ART_BAD_NETWORK (of either) and ART_NO_MAP. */
+uint32_t art_routes_available_many(const art_routes_map *map, const uint8_t *address, size_t width, uint8_t length,
+                                   uint8_t part_length, const uint8_t *after, size_t after_width, uint8_t *addresses,
+                                   size_t capacity, size_t *count);
+/* The first network at (inclusive) or after one for which two tables differ: `change` says by which change the first becomes
+   as the second, `before` the value of the first, but at ART_INSERT, and `after` that of the second, but at ART_REMOVE. The
+   address as in art_routes_next. ART_NONE where they have the same routes from there on. A call costs a few steps for each
+   route that is passed. */
+uint32_t art_routes_next_difference(const art_routes_map *map, const art_routes_map *new_map, const uint8_t *from,
+                                    size_t from_width, uint8_t from_length, bool inclusive, uint8_t *address,
+                                    size_t capacity, size_t *width, uint8_t *length, uint8_t *change,
+                                    uint64_t *before, uint64_t *after);
 
 /* What the library has under the names of calls that only look wants a handle that no other call uses while it runs. So in
    programs each of these names is that of a function which gives it a copy of the handle: threads have one each. */
@@ -371,6 +386,32 @@ static inline uint32_t art_routes_own_covering(const art_routes_map *map, const 
     return art_routes_covering(&own, address, width, length, lengths, lengths_len, values, values_len, count);
 }
 #define art_routes_covering art_routes_own_covering
+static inline uint32_t art_routes_own_previous(const art_routes_map *map, const uint8_t *to, size_t to_width,
+                                               uint8_t to_length, bool inclusive, uint8_t *address, size_t capacity,
+                                               size_t *width, uint8_t *length, uint64_t *value) {
+    art_routes_map own = *map;
+    return art_routes_previous(&own, to, to_width, to_length, inclusive, address, capacity, width, length, value);
+}
+#define art_routes_previous art_routes_own_previous
+static inline uint32_t art_routes_own_available_many(const art_routes_map *map, const uint8_t *address, size_t width,
+                                                     uint8_t length, uint8_t part_length, const uint8_t *after,
+                                                     size_t after_width, uint8_t *addresses, size_t capacity,
+                                                     size_t *count) {
+    art_routes_map own = *map;
+    return art_routes_available_many(&own, address, width, length, part_length, after, after_width, addresses,
+                                     capacity, count);
+}
+#define art_routes_available_many art_routes_own_available_many
+static inline uint32_t art_routes_own_next_difference(const art_routes_map *map, const art_routes_map *new_map,
+                                                      const uint8_t *from, size_t from_width, uint8_t from_length,
+                                                      bool inclusive, uint8_t *address, size_t capacity,
+                                                      size_t *width, uint8_t *length, uint8_t *change,
+                                                      uint64_t *before, uint64_t *after) {
+    art_routes_map own = *map, new_own = *new_map;
+    return art_routes_next_difference(&own, &new_own, from, from_width, from_length, inclusive, address, capacity,
+                                      width, length, change, before, after);
+}
+#define art_routes_next_difference art_routes_own_next_difference
 
 #ifdef __cplusplus
 }

@@ -214,7 +214,7 @@ template <class Source> class BytesBeside {
     ~BytesBeside() {
         walk();
         art_bytes_free(&map);
-        CHECK(art_bytes_len(&map) == 0 && art_bytes_compact(&map) == ART_NO_MAP);
+        CHECK(art_bytes_len(&map) == 0 && art_bytes_pop_first(&map, nullptr, 0, &len, &value) == ART_NO_MAP);
     }
 
     // All entries, each from the key before it.
@@ -312,14 +312,9 @@ template <class Source> class BytesBeside {
             if (source.below(64) == 0) walk();
             break;
         default:
-            switch (source.below(64)) {
-            case 0: CHECK(art_bytes_compact(&map) == ART_NONE); break;
-            case 1: CHECK(art_bytes_reserve(&map, source.below(256)) == ART_NONE); break;
-            case 2:
-                if (source.below(64) == 0) {
-                    art_bytes_clear(&map);
-                    model.clear();
-                }
+            if (source.below(4096) == 0) {
+                art_bytes_clear(&map);
+                model.clear();
             }
         }
         CHECK(art_bytes_len(&map) == model.size());
@@ -451,7 +446,7 @@ template <class Source> class NumbersBeside {
     ~NumbersBeside() {
         walk();
         art_u64_free(&map);
-        CHECK(art_u64_len(&map) == 0 && art_u64_compact(&map) == ART_NO_MAP);
+        CHECK(art_u64_len(&map) == 0 && art_u64_pop_first(&map, &found, &value) == ART_NO_MAP);
     }
 
     // All entries, by batches.
@@ -518,14 +513,9 @@ template <class Source> class NumbersBeside {
             many(key, choice, false);
             break;
         default:
-            switch (source.below(64)) {
-            case 0: CHECK(art_u64_compact(&map) == ART_NONE); break;
-            case 1: CHECK(art_u64_reserve(&map, source.below(256)) == ART_NONE); break;
-            case 2:
-                if (source.below(64) == 0) {
-                    art_u64_clear(&map);
-                    model.clear();
-                }
+            if (source.below(4096) == 0) {
+                art_u64_clear(&map);
+                model.clear();
             }
         }
         CHECK(art_u64_len(&map) == model.size());

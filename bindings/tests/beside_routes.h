@@ -136,14 +136,16 @@ template <class Source> class RoutesBeside {
         CHECK(std::all_of(values.begin() + std::min(wanted, values.size()), values.end(), [](uint64_t it) { return it == NO_VALUE; }));
     }
 
-    void next() {
+    // The first route from a network on, or the last one up to it.
+    void next(bool backwards) {
         Network from = some_network();
         bool inclusive = source.below(2) == 1;
         std::vector<uint8_t> out(source.below(3) == 0 ? source.below(20) : 16, NO_BYTE);
         size_t width = NO_LEN, written = 0;
-        uint32_t status = art_routes_next(&map, from.address.data(), from.address.size(), from.length, inclusive, out.data(), out.size(),
-                                          &width, &length, &value);
-        Route at = from.is_network() ? inclusive ? model.lower_bound(from) : model.upper_bound(from) : model.end();
+        uint32_t status = (backwards ? art_routes_previous : art_routes_next)(&map, from.address.data(), from.address.size(), from.length,
+                                                                              inclusive, out.data(), out.size(), &width, &length, &value);
+        Route at = from.is_network() ? inclusive != backwards ? model.lower_bound(from) : model.upper_bound(from) : model.end();
+        if (backwards) at = !from.is_network() || at == model.begin() ? model.end() : std::prev(at);
         if (at == model.end()) {
             CHECK(status == (from.is_network() ? ART_NONE : ART_BAD_NETWORK) && width == NO_LEN);
         } else if (at->first.address.size() > out.size()) {
@@ -156,6 +158,109 @@ template <class Source> class RoutesBeside {
         }
         if (written == 0) CHECK(length == NO_LENGTH && value == NO_VALUE);
         CHECK(std::all_of(out.begin() + written, out.end(), [](uint8_t byte) { return byte == NO_BYTE; }));
+    }
+
+    void get_or_insert() {
+        Network network = some_network();
+        uint64_t put = source.number();
+        found_value(network, art_routes_get_or_insert(&map, network.address.data(), network.address.size(), network.length, put, &value));
+        if (network.is_network()) model.insert({network, put});
+    }
+
+    bool overlaps_none(const Network &part) const {
+        return std::none_of(model.begin(), model.end(), [&](const auto &route) { return route.first.covers(part) || part.covers(route.first); });
+    }
+
+    // The network of the same length behind this one, where this is not the last one.
+    static bool advance(Network &network) {
+        for (size_t at = network.length; at > 0; at--) {
+            network.address[(at - 1) / 8] ^= 0x80 >> (at - 1) % 8;
+            if (network.bit(at - 1)) return true;
+        }
+        return false;
+    }
+
+    // Of a network that has few parts of a length, of which each is looked at.
+    void available_many() {
+        Network network = some_network(), after = network;
+        uint8_t part_length = (uint8_t)(network.length + source.below(10) - 1);
+        bool begins = source.below(3) == 0, is_bad = !network.is_network();
+        size_t width = network.address.size(), count = NO_LEN, after_width = begins ? 0 : width;
+        after.length = part_length;
+        if (source.below(8) == 0) after.address = some_address(width);
+        for (size_t at = network.length; at < std::min<size_t>(part_length, 8 * width); at++)
+            if (source.below(2)) after.address[at / 8] ^= 0x80 >> at % 8;
+        if (!begins) is_bad = is_bad || !after.is_network() || !network.covers(after);
+        std::vector<uint8_t> out(source.below(200), NO_BYTE);
+        uint32_t status = art_routes_available_many(&map, network.address.data(), width, network.length, part_length, after.address.data(),
+                                                    after_width, out.data(), out.size(), &count);
+        CHECK(status == (is_bad ? ART_BAD_NETWORK : ART_NONE));
+        std::vector<uint8_t> wanted;
+        size_t found = 0;
+        if (!is_bad && network.length <= part_length && part_length <= 8 * width) {
+            Network part = network;
+            part.length = part_length;
+            for (bool more = true; more && network.covers(part); more = advance(part)) {
+                if (!overlaps_none(part) || (!begins && !(after < part)) || (found + 1) * width > out.size()) continue;
+                wanted.insert(wanted.end(), part.address.begin(), part.address.end());
+                found++;
+            }
+        }
+        CHECK(count == (is_bad ? NO_LEN : found));
+        CHECK(std::equal(wanted.begin(), wanted.end(), out.begin()));
+        CHECK(std::all_of(out.begin() + wanted.size(), out.end(), [](uint8_t byte) { return byte == NO_BYTE; }));
+    }
+
+    // Another table, which differs in a few routes: the first difference from a network on.
+    void next_difference() {
+        art_routes_map other = {};
+        Model changed = model;
+        for (uint64_t left = source.below(6); left > 0; left--) {
+            Network network = some_network();
+            if (!network.is_network()) continue;
+            if (source.below(2)) changed.erase(network);
+            else changed[network] = source.number();
+        }
+        uint64_t ignored = 0, before = NO_VALUE, after = NO_VALUE;
+        CHECK(art_routes_new(&other) == ART_NONE);
+        for (const auto &route : changed)
+            CHECK(art_routes_insert(&other, route.first.address.data(), route.first.address.size(), route.first.length, route.second, &ignored) == ART_NONE);
+        Network from = some_network();
+        bool inclusive = source.below(2) == 1;
+        for (bool is_last = false; !is_last; inclusive = false) {
+            std::vector<uint8_t> out(source.below(6) == 0 ? source.below(20) : 16, NO_BYTE);
+            uint8_t change = NO_LENGTH;
+            size_t width = NO_LEN;
+            length = NO_LENGTH;
+            before = after = NO_VALUE;
+            uint32_t status = art_routes_next_difference(&map, &other, from.address.data(), from.address.size(), from.length, inclusive, out.data(),
+                                                         out.size(), &width, &length, &change, &before, &after);
+            // Both are gone along side by side.
+            auto one = inclusive ? model.lower_bound(from) : model.upper_bound(from), two = inclusive ? changed.lower_bound(from) : changed.upper_bound(from);
+            while (from.is_network() && one != model.end() && two != changed.end() && !(one->first < two->first) && !(two->first < one->first) && one->second == two->second)
+                ++one, ++two;
+            is_last = true;
+            if (!from.is_network() || (one == model.end() && two == changed.end())) {
+                CHECK(status == (from.is_network() ? ART_NONE : ART_BAD_NETWORK) && width == NO_LEN);
+            } else {
+                bool is_old = two == changed.end() || (one != model.end() && !(two->first < one->first));
+                bool is_new = one == model.end() || (two != changed.end() && !(one->first < two->first));
+                const Network &found = is_old ? one->first : two->first;
+                CHECK(width == found.address.size() && status == (width <= out.size() ? ART_SOME : ART_SMALL_BUFFER));
+                if (status == ART_SOME) {
+                    CHECK(length == found.length && std::equal(found.address.begin(), found.address.end(), out.begin()));
+                    CHECK(change == (is_old ? is_new ? ART_REPLACE : ART_REMOVE : ART_INSERT));
+                    CHECK(before == (is_old ? one->second : NO_VALUE) && after == (is_new ? two->second : NO_VALUE));
+                    CHECK(std::all_of(out.begin() + width, out.end(), [](uint8_t byte) { return byte == NO_BYTE; }));
+                    from = found;
+                    is_last = false;
+                    continue;
+                }
+            }
+            CHECK(length == NO_LENGTH && change == NO_LENGTH && before == NO_VALUE && after == NO_VALUE);
+            CHECK(std::all_of(out.begin(), out.end(), [](uint8_t byte) { return byte == NO_BYTE; }));
+        }
+        art_routes_free(&other);
     }
 
     void covering() {
@@ -256,7 +361,7 @@ template <class Source> class RoutesBeside {
         CHECK(art_routes_len(&map) == 0 && art_routes_compact(&map) == ART_NO_MAP);
     }
 
-    // All routes, each from the one before it, whose address lies where the next one is written.
+    // All routes, each from the one before it, whose address lies where the next one is written; then from the last one down.
     void walk() {
         uint8_t address[16] = {};
         size_t width = 4;
@@ -269,12 +374,23 @@ template <class Source> class RoutesBeside {
             inclusive = false;
         }
         CHECK(art_routes_next(&map, address, width, at, inclusive, address, sizeof address, &width, &at, &value) == ART_NONE);
+        std::fill(address, address + 16, 0xFF);
+        width = 16;
+        at = 128;
+        inclusive = true;
+        for (auto route = model.rbegin(); route != model.rend(); ++route) {
+            CHECK(art_routes_previous(&map, address, width, at, inclusive, address, sizeof address, &width, &at, &value) == ART_SOME);
+            CHECK(width == route->first.address.size() && std::equal(address, address + width, route->first.address.begin()));
+            CHECK(at == route->first.length && value == route->second);
+            inclusive = false;
+        }
+        CHECK(art_routes_previous(&map, address, width, at, inclusive, address, sizeof address, &width, &at, &value) == ART_NONE);
     }
 
     void call() {
         length = NO_LENGTH;
         value = NO_VALUE;
-        switch (source.below(18)) {
+        switch (source.below(21)) {
         case 0: case 1: case 2: case 3: {
             Network network = some_network();
             uint64_t put = source.number();
@@ -300,7 +416,7 @@ template <class Source> class RoutesBeside {
             longest_match_many();
             break;
         case 11: case 12:
-            next();
+            next(source.below(2) == 1);
             break;
         case 13: case 14:
             covering();
@@ -310,6 +426,15 @@ template <class Source> class RoutesBeside {
             break;
         case 16:
             if (source.below(20) == 0) remove_covered();
+            break;
+        case 17:
+            get_or_insert();
+            break;
+        case 18:
+            available_many();
+            break;
+        case 19:
+            if (model.size() < 300 && source.below(4) == 0) next_difference();
             break;
         default:
             switch (source.below(100)) {

@@ -82,7 +82,6 @@ static int insert_numbers(art_u64_map *map) {
     CHECK(art_u64_remove(map, 25, &value) == ART_SOME && value == 5);
     CHECK(art_u64_pop_first(map, &key, &value) == ART_SOME && key == 0);
     CHECK(art_u64_pop_last(map, &key, &value) == ART_SOME && value == COUNT - 1);
-    CHECK(art_u64_compact(map) == ART_NONE);
     CHECK(art_u64_len(map) == COUNT - 3);
     return 0;
 }

@@ -12,8 +12,6 @@ static int without_bytes(art_bytes_map *map) {
     uint64_t value = 7;
     CHECK(art_bytes_len(map) == 0);
     art_bytes_clear(map);
-    CHECK(art_bytes_reserve(map, 10) == ART_NO_MAP);
-    CHECK(art_bytes_compact(map) == ART_NO_MAP);
     CHECK(art_bytes_insert(map, key, 3, 1, &value) == ART_NO_MAP);
     CHECK(art_bytes_get(map, key, 3, &value) == ART_NO_MAP);
     CHECK(art_bytes_remove(map, key, 3, &value) == ART_NO_MAP);
@@ -41,8 +39,6 @@ static int without_numbers(art_u64_map *map) {
     uint64_t key = 5, value = 7, keys[2] = {1, 1}, values[2] = {2, 2};
     CHECK(art_u64_len(map) == 0);
     art_u64_clear(map);
-    CHECK(art_u64_reserve(map, 10) == ART_NO_MAP);
-    CHECK(art_u64_compact(map) == ART_NO_MAP);
     CHECK(art_u64_insert(map, 1, 1, &value) == ART_NO_MAP);
     CHECK(art_u64_get(map, 1, &value) == ART_NO_MAP);
     CHECK(art_u64_remove(map, 1, &value) == ART_NO_MAP);
@@ -83,6 +79,10 @@ static int without_routes(art_routes_map *map) {
     CHECK(art_routes_covering(map, address, 4, 8, lengths, 2, values, 2, &count) == ART_NO_MAP);
     CHECK(art_routes_parent(map, address, 4, 8, &length, &value) == ART_NO_MAP && art_routes_parent(map, address, 4, 33, &length, &value) == ART_NO_MAP);
     CHECK(art_routes_remove_covered(map, address, 4, 8, &count) == ART_NO_MAP && art_routes_aggregate(map) == ART_NO_MAP);
+    CHECK(art_routes_get_or_insert(map, address, 4, 8, 1, &value) == ART_NO_MAP && art_routes_get_or_insert(map, address, 4, 33, 1, &value) == ART_NO_MAP);
+    CHECK(art_routes_previous(map, address, 4, 8, true, out, 16, &width, &length, &value) == ART_NO_MAP);
+    CHECK(art_routes_available_many(map, address, 4, 8, 16, NULL, 0, out, 16, &count) == ART_NO_MAP);
+    CHECK(art_routes_next_difference(map, map, address, 4, 8, true, out, 16, &width, &length, lengths, values, values + 1) == ART_NO_MAP);
     CHECK(out[0] == 9 && length == 4 && lengths[0] == 3 && width == 5 && count == 8 && value == 7 && values[0] == 2);
     art_routes_free(map);
     return 0;
@@ -103,10 +103,26 @@ static int bad_networks(art_routes_map *map) {
         CHECK((art_routes_next(map, address, bytes, 16, false, out, 16, &width, &length, &value) == ART_BAD_NETWORK) == !is_address);
         CHECK((art_routes_covering(map, address, bytes, 16, lengths, 0, values, 0, &count) == ART_BAD_NETWORK) == !is_address);
         CHECK((art_routes_parent(map, address, bytes, 16, &length, &value) == ART_BAD_NETWORK) == !is_address);
+        CHECK((art_routes_previous(map, address, bytes, 16, false, out, 16, &width, &length, &value) == ART_BAD_NETWORK) == !is_address);
+        CHECK((art_routes_available_many(map, address, bytes, 16, 16, NULL, 0, out, 0, &count) == ART_BAD_NETWORK) == !is_address);
+        CHECK((art_routes_available_many(map, address, 4, 16, 16, address, bytes, out, 0, &count) == ART_BAD_NETWORK) == (bytes != 0 && bytes != 4));
+        CHECK((art_routes_next_difference(map, map, address, bytes, 16, false, out, 16, &width, &length, lengths, values, values + 1) == ART_BAD_NETWORK)
+              == !is_address);
     }
+    /* One table is there, the other is not. */
+    art_routes_map none = {0};
+    CHECK(art_routes_next_difference(map, &none, address, 4, 33, false, out, 16, &width, &length, lengths, values, values + 1) == ART_NO_MAP);
+    CHECK(art_routes_next_difference(&none, map, address, 4, 16, false, out, 16, &width, &length, lengths, values, values + 1) == ART_NO_MAP);
+    /* A network that is not inside the other, and one that has bits behind its length. */
+    const uint8_t beside[4] = {10, 2}, bits_behind[4] = {10, 1, 1};
+    CHECK(art_routes_available_many(map, address, 4, 16, 16, beside, 4, out, 0, &count) == ART_BAD_NETWORK);
+    CHECK(art_routes_available_many(map, address, 4, 16, 16, bits_behind, 4, out, 0, &count) == ART_BAD_NETWORK);
+    CHECK(art_routes_available_many(map, address, 4, 16, 24, bits_behind, 4, out, 0, &count) == ART_NONE && count == 0);
+    CHECK(art_routes_available_many(map, address, 4, 33, 8, NULL, 0, out, 0, &count) == ART_BAD_NETWORK);
     value = 7;
     /* A length that is too great, and a bit behind one. */
     CHECK(art_routes_insert(map, address, 4, 33, 1, &value) == ART_BAD_NETWORK && art_routes_insert(map, address, 4, 15, 1, &value) == ART_BAD_NETWORK);
+    CHECK(art_routes_get_or_insert(map, address, 4, 33, 1, &value) == ART_BAD_NETWORK && art_routes_get_or_insert(map, address, 4, 15, 1, &value) == ART_BAD_NETWORK);
     CHECK(art_routes_remove(map, address, 4, 255, &value) == ART_BAD_NETWORK && art_routes_remove(map, address, 4, 0, &value) == ART_BAD_NETWORK);
     CHECK(art_routes_insert(map, address, 16, 129, 1, &value) == ART_BAD_NETWORK && art_routes_insert(map, address, 16, 128, 1, &value) == ART_NONE);
     CHECK(art_routes_len(map) == 2 && value == 7 && art_routes_remove(map, address, 16, 128, &value) == ART_SOME && value == 1);

@@ -1,5 +1,5 @@
 // Each allocation of a script of calls is refused in turn: the call says so, and the entries are those of before.
-// Then it is made again. And after `reserve` all that is not for a key is refused, and no call needs it.
+// Then it is made again. Look-ups and removals of maps succeed with all memory refused, and so do those of tables after `reserve`.
 // Link with -Wl,--wrap=malloc,--wrap=realloc,--wrap=free: std::map does not use these.
 #include "beside_map.h"
 #include <malloc.h>
@@ -87,12 +87,15 @@ struct Maps {
     }
 };
 
-// A call, which returns a status, and may be made again. One that only looks takes memory for a key of 300 bytes alone.
+// A call that looks takes no memory. One that only takes entries out may ask for some, and succeeds where it is refused. So
+// does an insert by bytes where it asks for memory that makes searches faster.
+enum Effect { ADDS, TAKES_OUT, LOOKS };
+
+// A call, which returns a status, and may be made again where it is refused.
 struct Call {
     uint32_t (*make)(Maps &maps, uint64_t with);
     uint64_t with;
-    bool looks;
-    bool takes_memory() const { return !looks || with % 7 == 6; }
+    Effect effect;
 };
 
 static const uint8_t *name(uint64_t with, uint8_t *room, size_t *len) {
@@ -119,8 +122,9 @@ static const uint8_t *network(uint64_t with, uint8_t *room, size_t *width, uint8
 
 static std::vector<Call> script() {
     std::vector<Call> calls;
-    auto add = [&calls](uint32_t (*make)(Maps &, uint64_t), uint64_t with) { calls.push_back({make, with, false}); };
-    auto look = [&calls](uint32_t (*make)(Maps &, uint64_t), uint64_t with) { calls.push_back({make, with, true}); };
+    auto add = [&calls](uint32_t (*make)(Maps &, uint64_t), uint64_t with) { calls.push_back({make, with, ADDS}); };
+    auto take_out = [&calls](uint32_t (*make)(Maps &, uint64_t), uint64_t with) { calls.push_back({make, with, TAKES_OUT}); };
+    auto look = [&calls](uint32_t (*make)(Maps &, uint64_t), uint64_t with) { calls.push_back({make, with, LOOKS}); };
     add(CALL(return art_bytes_new(&maps.bytes);), 0);
     add(CALL(return art_u64_new(&maps.numbers);), 0);
     for (uint64_t i = 0; i < 90; i++) {
@@ -131,10 +135,6 @@ static std::vector<Call> script() {
     for (uint64_t i = 0; i < 90; i++) add(ROUTE_CALL(return art_routes_insert(&maps.routes, address, width, length, with, &maps.value);), i);
     add(CALL(return art_routes_reserve(&maps.routes, with);), 100);
     add(CALL(return art_routes_compact(&maps.routes);), 0);
-    add(CALL(return art_bytes_reserve(&maps.bytes, with);), 100);
-    add(CALL(return art_u64_reserve(&maps.numbers, with);), 100);
-    add(CALL(return art_bytes_compact(&maps.bytes);), 0);
-    add(CALL(return art_u64_compact(&maps.numbers);), 0);
     for (uint64_t i = 0; i < 90; i += 5) {
         look(CALL(return art_bytes_get(&maps.bytes, key, len, &maps.value);), i * 37);
         look(CALL(return art_bytes_next(&maps.bytes, key, len, true, maps.key, sizeof maps.key, &maps.len, &maps.value);), i);
@@ -144,37 +144,43 @@ static std::vector<Call> script() {
                   return art_bytes_next_many(&maps.bytes, key, len / 2, key, len, true, maps.key, sizeof maps.key, ends, 4, values, 4, &count, &maps.len);), i);
         look(CALL(size_t ends[4]; size_t count; uint64_t values[4];
                   return art_bytes_previous_many(&maps.bytes, key, len / 2, key, len, true, maps.key, sizeof maps.key, ends, 4, values, 4, &count, &maps.len);), i);
-        // Of no bytes, which is never refused, and of all.
+        // Of no bytes, and of all.
         look(CALL(size_t ends[2]; uint8_t found[2]; uint64_t values[2]; size_t count; ends[0] = 0; ends[1] = len;
                   uint32_t status = art_bytes_get_many(&maps.bytes, key, len, ends, 2, found, 2, values, 2, &count);
-                  CHECK(count == (status == ART_NO_MEMORY ? 1 : 2)); return status;), i);
-        look(CALL(return art_bytes_count_prefix(&maps.bytes, key, len) == ART_NO_COUNT ? ART_NO_MEMORY : ART_NONE;), i);
+                  CHECK(count == 2); return status;), i);
+        look(CALL(return art_bytes_count_prefix(&maps.bytes, key, len) <= 90 ? ART_NONE : ART_NO_MEMORY;), i);
         look(CALL(return art_u64_get(&maps.numbers, with, &maps.value);), i);
     }
     for (uint64_t i = 0; i < 90; i += 5) {
-        // `with % 7 == 6` takes memory for a key: these take none.
-        uint64_t at = i % 7 == 6 ? i + 1 : i;
-        look(ROUTE_CALL(return art_routes_get(&maps.routes, address, width, length, &maps.value);), at);
-        look(ROUTE_CALL(return art_routes_longest_match(&maps.routes, address, width, &length, &maps.value);), at);
-        look(ROUTE_CALL(size_t count; return art_routes_longest_match_many(&maps.routes, address, width, width, &length, 1, &maps.value, 1, &count);), at);
+        look(ROUTE_CALL(return art_routes_get(&maps.routes, address, width, length, &maps.value);), i);
+        look(ROUTE_CALL(return art_routes_longest_match(&maps.routes, address, width, &length, &maps.value);), i);
+        look(ROUTE_CALL(size_t count; return art_routes_longest_match_many(&maps.routes, address, width, width, &length, 1, &maps.value, 1, &count);), i);
         look(ROUTE_CALL(uint8_t lengths[200]; uint64_t values[200]; size_t count;
-                        return art_routes_covering(&maps.routes, address, width, length, lengths, 200, values, 200, &count);), at);
-        look(ROUTE_CALL(return art_routes_parent(&maps.routes, address, width, length, &length, &maps.value);), at);
-        look(ROUTE_CALL(return art_routes_next(&maps.routes, address, width, length, true, maps.key, 16, &maps.len, &length, &maps.value);), at);
+                        return art_routes_covering(&maps.routes, address, width, length, lengths, 200, values, 200, &count);), i);
+        look(ROUTE_CALL(return art_routes_parent(&maps.routes, address, width, length, &length, &maps.value);), i);
+        look(ROUTE_CALL(return art_routes_next(&maps.routes, address, width, length, true, maps.key, 16, &maps.len, &length, &maps.value);), i);
+        look(ROUTE_CALL(return art_routes_previous(&maps.routes, address, width, length, true, maps.key, 16, &maps.len, &length, &maps.value);), i);
+        look(ROUTE_CALL(size_t count; return art_routes_available_many(&maps.routes, address, width, length, length + 2, nullptr, 0, maps.key, 64, &count);), i);
+        look(ROUTE_CALL(uint8_t change; uint64_t after; return art_routes_next_difference(&maps.routes, &maps.routes, address, width, length, true, maps.key, 16,
+                        &maps.len, &length, &change, &maps.value, &after);), i);
     }
+    for (uint64_t i = 85; i < 110; i++) add(ROUTE_CALL(return art_routes_get_or_insert(&maps.routes, address, width, length, with, &maps.value);), i);
     for (uint64_t i = 0; i < 90; i += 2) add(ROUTE_CALL(return art_routes_remove(&maps.routes, address, width, length, &maps.value);), i);
     for (uint64_t i = 0; i < 45; i++) {
-        add(CALL(return art_bytes_remove(&maps.bytes, key, len, &maps.value);), i * 74);
-        add(CALL(return art_u64_remove(&maps.numbers, with, &maps.value);), i < 30 ? 2 * i : i << 40);
+        take_out(CALL(return art_bytes_remove(&maps.bytes, key, len, &maps.value);), i * 74);
+        take_out(CALL(return art_u64_remove(&maps.numbers, with, &maps.value);), i < 30 ? 2 * i : i << 40);
     }
     for (uint64_t i = 0; i < 70; i++) {
-        add(i % 2 ? CALL(return art_bytes_pop_first(&maps.bytes, maps.key, sizeof maps.key, &maps.len, &maps.value);)
-                  : CALL(return art_bytes_pop_last(&maps.bytes, maps.key, sizeof maps.key, &maps.len, &maps.value);), 0);
-        add(i % 2 ? CALL(return art_u64_pop_first(&maps.numbers, &maps.number, &maps.value);)
-                  : CALL(return art_u64_pop_last(&maps.numbers, &maps.number, &maps.value);), 0);
+        take_out(i % 2 ? CALL(return art_bytes_pop_first(&maps.bytes, maps.key, sizeof maps.key, &maps.len, &maps.value);)
+                       : CALL(return art_bytes_pop_last(&maps.bytes, maps.key, sizeof maps.key, &maps.len, &maps.value);), 0);
+        take_out(i % 2 ? CALL(return art_u64_pop_first(&maps.numbers, &maps.number, &maps.value);)
+                       : CALL(return art_u64_pop_last(&maps.numbers, &maps.number, &maps.value);), 0);
     }
     return calls;
 }
+
+// How many calls of the script were refused.
+static long denials = 0;
 
 // Runs the script with this allocation refused. Whether there was one.
 static bool run(const std::vector<Call> &calls, long allocation) {
@@ -193,7 +199,19 @@ static bool run(const std::vector<Call> &calls, long allocation) {
             CHECK(status == ART_NONE || status == ART_SOME);
             continue;
         }
-        CHECK(status == ART_NO_MEMORY && call.takes_memory());
+        if (call.effect == TAKES_OUT) {
+            Maps::Entries left = maps.entries();
+            CHECK(status == ART_NONE || status == ART_SOME);
+            CHECK(left.first.size() + left.second.size() + status == entries.first.size() + entries.second.size());
+            continue;
+        }
+        CHECK(call.effect == ADDS);
+        if (status != ART_NO_MEMORY) {
+            Maps::Entries more = maps.entries();
+            CHECK(status == ART_NONE && more.first.size() == entries.first.size() + 1 && more.second == entries.second && more.routes == entries.routes);
+            continue;
+        }
+        denials++;
         CHECK(maps.entries() == entries);
         CHECK(maps.len == untouched.len && maps.number == untouched.number && maps.value == untouched.value);
         CHECK(std::memcmp(maps.key, untouched.key, sizeof maps.key) == 0);
@@ -207,6 +225,9 @@ static bool run(const std::vector<Call> &calls, long allocation) {
     return refused;
 }
 
+// How many calls for many entries were refused.
+static long stopped = 0;
+
 // Many entries at once, with this allocation refused: those before it are in, and no others. Whether there was one.
 template <typename Key, typename Insert, typename Entries>
 static bool stops(long allocation, const std::vector<Key> &keys, Insert insert, Entries entries) {
@@ -218,7 +239,9 @@ static bool stops(long allocation, const std::vector<Key> &keys, Insert insert, 
     counting = true;
     uint32_t status = insert(values, &done);
     counting = false;
-    CHECK(status == (refused ? ART_NO_MEMORY : ART_NONE) && (done < keys.size()) == refused);
+    CHECK(status == ART_NONE || (status == ART_NO_MEMORY && refused));
+    CHECK((done < keys.size()) == (status == ART_NO_MEMORY));
+    if (status == ART_NO_MEMORY) stopped++;
     std::map<Key, uint64_t> model;
     for (size_t i = 0; i < done; i++) model[keys[i]] = values[i];
     CHECK((entries() == std::vector<std::pair<Key, uint64_t>>(model.begin(), model.end())));
@@ -233,10 +256,10 @@ static bool numbers_stop(long allocation) {
     auto insert = [&](const std::vector<uint64_t> &values, size_t *done) {
         return art_u64_insert_many(&maps.numbers, keys.data(), keys.size(), values.data(), values.size(), done);
     };
-    bool stopped = stops(allocation, keys, insert, [&] { return maps.entries().second; });
+    bool any = stops(allocation, keys, insert, [&] { return maps.entries().second; });
     art_u64_free(&maps.numbers);
     CHECK(blocks == 0);
-    return stopped;
+    return any;
 }
 
 // The same by bytes, each of which takes memory.
@@ -257,10 +280,10 @@ static bool names_stop(long allocation) {
         return art_bytes_insert_many(&maps.bytes, reinterpret_cast<const uint8_t *>(keys.data()), keys.size(), ends.data(), ends.size(),
                                      values.data(), values.size(), done);
     };
-    bool stopped = stops(allocation, names, insert, [&] { return maps.entries().first; });
+    bool any = stops(allocation, names, insert, [&] { return maps.entries().first; });
     art_bytes_free(&maps.bytes);
     CHECK(blocks == 0);
-    return stopped;
+    return any;
 }
 
 // A load with this allocation refused: no entry is in, and it may be made again. Whether there was one.
@@ -289,10 +312,10 @@ static bool loads(long allocation) {
     bool before = refused;
     uint32_t of_numbers = load_numbers();
     counting = false;
-    CHECK(of_names == (before ? ART_NO_MEMORY : ART_NONE) && of_numbers == (refused == before ? ART_NONE : ART_NO_MEMORY));
+    CHECK((of_names == ART_NONE || (of_names == ART_NO_MEMORY && before)) && of_numbers == (refused == before ? ART_NONE : ART_NO_MEMORY));
     Maps::Entries entries = maps.entries();
-    CHECK(entries.first.size() == (before ? 0 : 300) && entries.second.size() == (refused == before ? 300 : 0));
-    if (before) CHECK(load_names() == ART_NONE);
+    CHECK(entries.first.size() == (of_names == ART_NONE ? 300 : 0) && entries.second.size() == (refused == before ? 300 : 0));
+    if (of_names == ART_NO_MEMORY) CHECK(load_names() == ART_NONE);
     if (refused != before) CHECK(load_numbers() == ART_NONE);
     entries = maps.entries();
     CHECK(entries.first == names && entries.second.size() == 300 && entries.second.back() == std::make_pair(numbers.back(), numbers.back()));
@@ -302,52 +325,70 @@ static bool loads(long allocation) {
     return refused;
 }
 
-// Calls of a map of one kind, of which an insert or removal of the key `i` takes blocks of so many bytes at most for that key.
-struct Kind {
-    size_t key_bytes;
-    uint32_t (*make)(Maps &maps);
-    uint32_t (*reserve)(Maps &maps, size_t additional);
-    uint32_t (*insert)(Maps &maps, uint64_t i);
-    uint32_t (*remove)(Maps &maps, uint64_t i);
-    uint32_t (*compact)(Maps &maps);
-};
+// With all memory refused, a map answers look-ups, takes new values for its keys, and gives all entries out.
+static void needs_none() {
+    const uint64_t count = 3000;
+    Maps maps;
+    CHECK(art_bytes_new(&maps.bytes) == ART_NONE && art_u64_new(&maps.numbers) == ART_NONE);
+    uint8_t room[400], *out = maps.key;
+    size_t len = 0;
+    auto of_number = [](uint64_t i) { return i * 0x9E3779B97F4A7C15u; };
+    for (uint64_t i = 0; i < count; i++) {
+        const uint8_t *key = name(i, room, &len);
+        CHECK(art_bytes_insert(&maps.bytes, key, len, i, &maps.value) <= ART_SOME);
+        CHECK(art_u64_insert(&maps.numbers, of_number(i), i, &maps.value) == ART_NONE);
+    }
+    size_t names = art_bytes_len(&maps.bytes);
+    until_refusal = 0;
+    largest = 0;
+    refused = false;
+    counting = true;
+    for (uint64_t i = 0; i < count; i++) {
+        const uint8_t *key = name(i, room, &len);
+        CHECK(art_bytes_get(&maps.bytes, key, len, &maps.value) == ART_SOME);
+        CHECK(art_bytes_insert(&maps.bytes, key, len, i + 1, &maps.value) == ART_SOME);
+        CHECK(art_bytes_next(&maps.bytes, key, len, true, out, sizeof maps.key, &maps.len, &maps.value) == ART_SOME && maps.len == len && maps.value == i + 1);
+        CHECK(art_bytes_previous(&maps.bytes, key, len, true, out, sizeof maps.key, &maps.len, &maps.value) == ART_SOME && maps.len == len);
+        CHECK(art_bytes_next_with_prefix(&maps.bytes, key, len, key, len, true, out, sizeof maps.key, &maps.len, &maps.value) == ART_SOME);
+        CHECK(art_bytes_count_prefix(&maps.bytes, key, len) >= 1);
+        CHECK(art_u64_get(&maps.numbers, of_number(i), &maps.value) == ART_SOME && maps.value == i);
+        CHECK(art_u64_insert(&maps.numbers, of_number(i), i + 1, &maps.value) == ART_SOME && maps.value == i);
+    }
+    CHECK(!refused);
+    for (uint64_t i = 0; i < count; i += 2) {
+        const uint8_t *key = name(i, room, &len);
+        if (art_bytes_remove(&maps.bytes, key, len, &maps.value) == ART_SOME) names--;
+        CHECK(art_bytes_get(&maps.bytes, key, len, &maps.value) == ART_NONE);
+        CHECK(art_u64_remove(&maps.numbers, of_number(i), &maps.value) == ART_SOME && maps.value == i + 1);
+    }
+    for (size_t left = names; left > 0; left--)
+        CHECK((left % 2 ? art_bytes_pop_first(&maps.bytes, out, sizeof maps.key, &maps.len, &maps.value)
+                        : art_bytes_pop_last(&maps.bytes, out, sizeof maps.key, &maps.len, &maps.value)) == ART_SOME);
+    for (uint64_t left = count / 2; left > 0; left--)
+        CHECK((left % 2 ? art_u64_pop_first(&maps.numbers, &maps.number, &maps.value) : art_u64_pop_last(&maps.numbers, &maps.number, &maps.value)) == ART_SOME);
+    CHECK(art_bytes_len(&maps.bytes) == 0 && art_u64_len(&maps.numbers) == 0);
+    counting = false;
+    largest = SIZE_MAX;
+    art_bytes_free(&maps.bytes);
+    art_u64_free(&maps.numbers);
+    CHECK(blocks == 0 && held == 0);
+}
 
-// A key of 8 bytes, none of which is zero, so that it has 10 in a map; a network of 32 bits or more, in either family.
-#define TEXT_CALL(body) [](Maps &maps, uint64_t i) -> uint32_t { uint8_t key[8]; uint64_t left = i * 0x9E3779B97F4A7C15u; \
-    for (uint8_t &byte : key) byte = static_cast<uint8_t>(left % 255 + 1), left /= 255; \
-    body }
+// A network of 32 bits or more, in either family.
 #define BLOCK_CALL(body) [](Maps &maps, uint64_t i) -> uint32_t { uint8_t address[16] = {}; size_t width = i % 2 ? 4 : 16; \
     uint8_t length = static_cast<uint8_t>(i % 2 ? 32 : 32 + i % 97); \
     for (size_t at = 0; at < 4; at++) address[at] = static_cast<uint8_t>(i * 0x9E3779B1u >> 8 * at); \
     body }
 
-static const Kind kinds[] = {
-    {10, [](Maps &maps) { return art_bytes_new(&maps.bytes); },
-     [](Maps &maps, size_t additional) { return art_bytes_reserve(&maps.bytes, additional); },
-     TEXT_CALL(return art_bytes_insert(&maps.bytes, key, sizeof key, i, &maps.value);),
-     TEXT_CALL(return art_bytes_remove(&maps.bytes, key, sizeof key, &maps.value);),
-     [](Maps &maps) { return art_bytes_compact(&maps.bytes); }},
-    {0, [](Maps &maps) { return art_u64_new(&maps.numbers); },
-     [](Maps &maps, size_t additional) { return art_u64_reserve(&maps.numbers, additional); },
-     [](Maps &maps, uint64_t i) { return art_u64_insert(&maps.numbers, i * 0x9E3779B97F4A7C15u, i, &maps.value); },
-     [](Maps &maps, uint64_t i) { return art_u64_remove(&maps.numbers, i * 0x9E3779B97F4A7C15u, &maps.value); },
-     [](Maps &maps) { return art_u64_compact(&maps.numbers); }},
-    {0, [](Maps &maps) { return art_routes_new(&maps.routes); },
-     [](Maps &maps, size_t additional) { return art_routes_reserve(&maps.routes, additional); },
-     BLOCK_CALL(return art_routes_insert(&maps.routes, address, width, length, i, &maps.value);),
-     BLOCK_CALL(return art_routes_remove(&maps.routes, address, width, length, &maps.value);),
-     [](Maps &maps) { return art_routes_compact(&maps.routes); }},
-};
-
-// After `reserve` so many inserts of new keys take no memory but for keys, and so do removals from a compact map, which needs
-// smaller nodes. Then `compact` gives most memory back.
-static void reserves(const Kind &kind) {
+// After `reserve` so many inserts of new routes take no memory, and so do removals from a compact table, which needs smaller
+// nodes. Then `compact` gives most memory back.
+static void reserves() {
     const uint64_t count = 3000;
     Maps maps;
     auto changes = [&](uint32_t (*change)(Maps &, uint64_t), uint64_t from, uint32_t due) {
-        CHECK(kind.reserve(maps, count - from) == ART_NONE);
+        CHECK(art_routes_reserve(&maps.routes, count - from) == ART_NONE);
         until_refusal = 0;
-        largest = kind.key_bytes;
+        largest = 0;
         refused = false;
         counting = true;
         for (uint64_t i = from; i < count; i++) CHECK(change(maps, i) == due);
@@ -355,29 +396,30 @@ static void reserves(const Kind &kind) {
         largest = SIZE_MAX;
         CHECK(!refused);
     };
-    CHECK(kind.make(maps) == ART_NONE);
-    changes(kind.insert, 0, ART_NONE);
-    CHECK(kind.compact(maps) == ART_NONE);
-    changes(kind.remove, count / 10, ART_SOME);
+    CHECK(art_routes_new(&maps.routes) == ART_NONE);
+    changes(BLOCK_CALL(return art_routes_insert(&maps.routes, address, width, length, i, &maps.value);), 0, ART_NONE);
+    CHECK(art_routes_compact(&maps.routes) == ART_NONE);
+    changes(BLOCK_CALL(return art_routes_remove(&maps.routes, address, width, length, &maps.value);), count / 10, ART_SOME);
     size_t before = held;
-    CHECK(kind.compact(maps) == ART_NONE && held < before / 4);
-    art_bytes_free(&maps.bytes);
-    art_u64_free(&maps.numbers);
+    CHECK(art_routes_compact(&maps.routes) == ART_NONE && held < before / 4);
     art_routes_free(&maps.routes);
     CHECK(blocks == 0 && held == 0);
 }
 
 int main() {
-    for (const Kind &kind : kinds) reserves(kind);
+    needs_none();
+    reserves();
     long numbers = 1, names = 1;
     while (numbers_stop(numbers)) numbers++;
+    // Each refusal of a map by numbers is told.
+    CHECK(numbers > 1 && stopped == numbers - 1);
     while (names_stop(names)) names++;
-    CHECK(numbers > 1 && names > 300);
+    CHECK(names > 200 && stopped > numbers + 200);
     long load = 1;
     while (loads(load)) load++;
     std::vector<Call> calls = script();
     long allocation = 1;
     while (run(calls, allocation)) allocation++;
-    std::printf("refused_memory: of %zu calls each of %ld allocations was refused, and changed nothing; after reserve none was needed\n",
-                calls.size(), allocation - 1);
+    std::printf("refused_memory: of %zu calls each of %ld allocations was refused, %ld calls said so, and changed nothing; look-ups and removals need none\n",
+                calls.size(), allocation - 1, denials);
 }

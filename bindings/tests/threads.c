@@ -71,6 +71,10 @@ static void looks_at_routes(const art_routes_map *table, unsigned n) {
     CHECK(width == 4 && length == 24 && value == n && memcmp(found, network, 4) == 0);
     CHECK(art_routes_covering(table, address, 4, 32, lengths, 2, values, 2, &count) == ART_NONE);
     CHECK(count == 2 && lengths[0] == 24 && lengths[1] == 8 && values[1] == ENTRIES);
+    CHECK(art_routes_previous(table, address, 4, 32, true, found, 16, &width, &length, &value) == ART_SOME);
+    CHECK(width == 4 && length == 24 && value == n && memcmp(found, network, 4) == 0);
+    CHECK(art_routes_available_many(table, network, 4, 24, 32, NULL, 0, found, 16, &count) == ART_NONE && count == 0);
+    CHECK(art_routes_next_difference(table, table, network, 4, 24, true, found, 16, &width, &length, lengths, values, values + 1) == ART_NONE);
     CHECK(art_routes_len(table) >= ENTRIES + 1);
 }
 

@@ -1,5 +1,6 @@
 pub mod Handles
 pub mod Lending
+pub mod NetworkStatuses
 pub mod RouteStatuses
 pub mod Statuses
 pub mod Version

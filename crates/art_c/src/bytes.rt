@@ -1,35 +1,22 @@
 //! The exports for maps by bytes.
-ghost use Rattle.std.specs.Prelude.{All, ◌≡◌, ◌≢◌, ◌-◌, ◌^◌, ◌<◌, ◌≤◌, ◌⊎◌, ◌↔◌, [], None, Some, IfNone, IfSome, IsSome, drop, get_or, length, min, nat_le, reverse, take, true, if◌then◌else◌};
+ghost use Rattle.std.specs.Prelude.{◌≡◌, ◌≢◌, ◌-◌, ◌<◌, ◌⊎◌, ◌↔◌, [], None, Some, IfNone, IfSome, IsSome, drop, get_or, length, min, nat_le, reverse, take, if◌then◌else◌};
 ghost use Rattle.std.specs.List.{zip};
 ghost use Rattle.std.specs.Option.{option_map};
 ghost use Rattle.art_bytes.specs.Text.{text_order};
-ghost use Rattle.art_mapped.specs.Escaped.{escaped_text};
 ghost use Rattle.art_c.specs.Handles.{entries_of};
 ghost use Rattle.art_c.specs.Statuses.{ART_HAS_MAP, ART_KEY_TOO_LONG, ART_NONE, ART_NO_MAP, ART_NO_MEMORY, ART_SMALL_BUFFER, ART_SOME, IsDone, IsRefusal, batch_status, found_or, key_len_or, status_in, status_of, value_in};
 ghost use Rattle.art_c_maps.specs.Batch.{ends_of, joined, next_fitting, previous_fitting, unfit_len};
+ghost use Rattle.art_c_maps.specs.Buffers.{key_written};
 ghost use Rattle.art_c_maps.specs.Entries.{begun_with, entries_from, entries_to, entries_with_prefix, first_of, keys_of, last_of, put, put_each, value_of, values_of, without};
 ghost use Rattle.art_c_maps.specs.Many.{are_found, cut, found_values};
-ghost use Rattle.art_c_maps.specs.Unescaped.{key_fits, key_written};
+ghost use Rattle.art_c_maps.specs.Refusals.{IsNotTooLong, IsTooLong};
 
 use crate::bytes_handle::BytesHandle;
 use crate::bytes_view::BytesView;
+use crate::numbers::value_status;
 use crate::statuses::{HAS_MAP, KEY_TOO_LONG, NO_MAP, NO_MEMORY, NONE, SMALL_BUFFER, SOME};
 use art_c_maps::{BytesMap, Refusal};
 use std::alloc::Global;
-
-// The status of a call that finds a value, which is written out.
-fn value_status(found: Option<u64>, value: &mut u64) -> u32
-    ensures status { result ≡ status_of found }
-    ensures value { value.new ≡ found_or found value.old }
-{
-    match found {
-        Some(found) => {
-            *value = found;
-            SOME
-        }
-        None => NONE,
-    }
-}
 
 // The status of a call that finds an entry, whose key's length and whose value are written out.
 fn entry_status(
@@ -42,6 +29,7 @@ fn entry_status(
     ensures some { IfSome found (λ entry. (key_len.new ≡ entry.0)
         × (result ≡ (if nat_le entry.0 room then ART_SOME else ART_SMALL_BUFFER))
         × (value.new ≡ (if nat_le entry.0 room then entry.1 else value.old))) }
+    ensures never_no_memory { result ≢ ART_NO_MEMORY }
 {
     let Some((len, found)) = found else {
         return NONE;
@@ -58,6 +46,7 @@ fn entry_status(
 // does not fit.
 fn batch_status(written: usize, unfit: Option<usize>, count: &mut usize, key_len: &mut usize) -> u32
     ensures status { result ≡ batch_status written unfit }
+    ensures never_no_memory { result ≢ ART_NO_MEMORY }
     ensures count { count.new ≡ written }
     ensures key_len { key_len.new ≡ found_or unfit key_len.old }
 {
@@ -123,40 +112,6 @@ pub extern "C" fn art_bytes_clear(map: &mut BytesHandle)
     held.clear();
 }
 
-/// Reserves memory for more entries, but for their keys.
-#[unsafe(no_mangle)]
-pub extern "C" fn art_bytes_reserve(map: &mut BytesHandle, additional: usize) -> u32
-    ensures no_map { (result ≡ ART_NO_MAP) ↔ (map.old.held ≡ None) }
-    ensures status { IsDone result → result ≡ ART_NONE }
-    ensures same_entries { map.new.held ≡ map.old.held }
-{
-    let Some(held) = map.lent_mut() else {
-        return NO_MAP;
-    };
-    let reserved = held.reserve(additional);
-    match reserved {
-        Ok(_) => NONE,
-        Err(_) => NO_MEMORY,
-    }
-}
-
-/// Puts the entries into memory in the order of their keys, with room for just them.
-#[unsafe(no_mangle)]
-pub extern "C" fn art_bytes_compact(map: &mut BytesHandle) -> u32
-    ensures no_map { (result ≡ ART_NO_MAP) ↔ (map.old.held ≡ None) }
-    ensures status { IsDone result → result ≡ ART_NONE }
-    ensures same_entries { map.new.held ≡ map.old.held }
-{
-    let Some(held) = map.lent_mut() else {
-        return NO_MAP;
-    };
-    let compacted = held.compact();
-    match compacted {
-        Ok(_) => NONE,
-        Err(_) => NO_MEMORY,
-    }
-}
-
 /// Sets the value of a key, and writes out the one that it had.
 #[unsafe(no_mangle)]
 pub extern "C" fn art_bytes_insert(
@@ -174,7 +129,9 @@ pub extern "C" fn art_bytes_insert(
     ensures before { IsDone result × (result ≢ ART_KEY_TOO_LONG) → before.new
         ≡ found_or (value_of text_order (entries_of map.old.held) key.now) before.old }
     ensures too_long { result ≢ ART_NO_MAP →
-        (result ≡ ART_KEY_TOO_LONG) ↔ (2 ^ 32 ≤ length (escaped_text key.now)) }
+        (result ≡ ART_KEY_TOO_LONG) ↔ IsTooLong key.now }
+    ensures no_entry { result ≡ ART_NO_MEMORY →
+        value_of text_order (entries_of map.old.held) key.now ≡ None }
     ensures refused { IsRefusal result →
         (map.new.held ≡ map.old.held) × (before.new ≡ before.old) }
 {
@@ -191,65 +148,44 @@ pub extern "C" fn art_bytes_insert(
 
 /// Finds the value of a key.
 #[unsafe(no_mangle)]
-pub extern "C" fn art_bytes_get(
-    alloc: Global,
-    map: &mut BytesView,
-    key: &[u8],
-    value: &mut u64,
-) -> u32
+pub extern "C" fn art_bytes_get(map: &mut BytesView, key: &[u8], value: &mut u64) -> u32
     ensures no_map { (result ≡ ART_NO_MAP) ↔ (map.old.seen ≡ None) }
-    ensures status { IsDone result →
+    ensures never_no_memory { result ≢ ART_NO_MEMORY }
+    ensures status { result ≢ ART_NO_MAP →
         result ≡ status_of (value_of text_order (entries_of map.old.seen) key.now) }
-    ensures value { IsDone result → value.new
+    ensures value { value.new
         ≡ found_or (value_of text_order (entries_of map.old.seen) key.now) value.old }
-    ensures refused { IsRefusal result → value.new ≡ value.old }
-    ensures takes_no_memory { length key.now ≤ 256 → result ≢ ART_NO_MEMORY }
     ensures same { map.new ≡ map.old }
 {
     let Some(held) = map.lent() else {
         return NO_MAP;
     };
-    let found = held.get(alloc, key);
-    match found {
-        Ok(found) => value_status(found, value),
-        Err(_) => NO_MEMORY,
-    }
+    let found = held.get(key);
+    value_status(found, value)
 }
 
 /// Removes a key, and writes out its value.
 #[unsafe(no_mangle)]
-pub extern "C" fn art_bytes_remove(
-    alloc: Global,
-    map: &mut BytesHandle,
-    key: &[u8],
-    value: &mut u64,
-) -> u32
+pub extern "C" fn art_bytes_remove(map: &mut BytesHandle, key: &[u8], value: &mut u64) -> u32
     ensures no_map { (result ≡ ART_NO_MAP) ↔ (map.old.held ≡ None) }
-    ensures entries { IsDone result →
-        map.new.held ≡ Some (without text_order (entries_of map.old.held) key.now) }
-    ensures status { IsDone result →
+    ensures never_no_memory { result ≢ ART_NO_MEMORY }
+    ensures entries { map.new.held
+        ≡ option_map (λ entries. without text_order entries key.now) map.old.held }
+    ensures status { result ≢ ART_NO_MAP →
         result ≡ status_of (value_of text_order (entries_of map.old.held) key.now) }
-    ensures value { IsDone result → value.new
+    ensures value { value.new
         ≡ found_or (value_of text_order (entries_of map.old.held) key.now) value.old }
-    ensures refused_for_memory { length key.now ≤ 256 → result ≡ ART_NO_MEMORY →
-        value_of text_order (entries_of map.old.held) key.now ≢ None }
-    ensures refused { IsRefusal result →
-        (map.new.held ≡ map.old.held) × (value.new ≡ value.old) }
 {
     let Some(held) = map.lent_mut() else {
         return NO_MAP;
     };
-    let removed = held.remove(alloc, key);
-    match removed {
-        Ok(found) => value_status(found, value),
-        Err(_) => NO_MEMORY,
-    }
+    let removed = held.remove(key);
+    value_status(removed, value)
 }
 
 /// Finds the first entry at a key or after it.
 #[unsafe(no_mangle)]
 pub extern "C" fn art_bytes_next(
-    alloc: Global,
     map: &mut BytesView,
     from: &[u8],
     inclusive: bool,
@@ -258,38 +194,32 @@ pub extern "C" fn art_bytes_next(
     value: &mut u64,
 ) -> u32
     ensures no_map { (result ≡ ART_NO_MAP) ↔ (map.old.seen ≡ None) }
-    ensures status { IsDone result → result ≡ status_in
+    ensures never_no_memory { result ≢ ART_NO_MEMORY }
+    ensures status { result ≢ ART_NO_MAP → result ≡ status_in
         (first_of (entries_from text_order inclusive from.now (entries_of map.old.seen)))
         (length key_out.old) }
-    ensures key { IsDone result → key_out.new ≡ key_written
+    ensures key { key_out.new ≡ key_written
         (first_of (entries_from text_order inclusive from.now (entries_of map.old.seen)))
         key_out.old }
-    ensures key_len { IsDone result → key_len.new ≡ key_len_or
+    ensures key_len { key_len.new ≡ key_len_or
         (first_of (entries_from text_order inclusive from.now (entries_of map.old.seen)))
         key_len.old }
-    ensures value { IsDone result → value.new ≡ value_in
+    ensures value { value.new ≡ value_in
         (first_of (entries_from text_order inclusive from.now (entries_of map.old.seen)))
         (length key_out.old) value.old }
-    ensures refused { IsRefusal result → (key_out.new ≡ key_out.old)
-        × (key_len.new ≡ key_len.old) × (value.new ≡ value.old) }
-    ensures takes_no_memory { length from.now ≤ 256 → result ≢ ART_NO_MEMORY }
     ensures same { map.new ≡ map.old }
 {
     let Some(held) = map.lent() else {
         return NO_MAP;
     };
     let room = key_out.len();
-    let found = held.next(alloc, from, inclusive, key_out);
-    match found {
-        Ok(found) => entry_status(found, room, key_len, value),
-        Err(_) => NO_MEMORY,
-    }
+    let found = held.next(from, inclusive, key_out);
+    entry_status(found, room, key_len, value)
 }
 
 /// Finds the last entry at a key or before it.
 #[unsafe(no_mangle)]
 pub extern "C" fn art_bytes_previous(
-    alloc: Global,
     map: &mut BytesView,
     from: &[u8],
     inclusive: bool,
@@ -298,38 +228,32 @@ pub extern "C" fn art_bytes_previous(
     value: &mut u64,
 ) -> u32
     ensures no_map { (result ≡ ART_NO_MAP) ↔ (map.old.seen ≡ None) }
-    ensures status { IsDone result → result ≡ status_in
+    ensures never_no_memory { result ≢ ART_NO_MEMORY }
+    ensures status { result ≢ ART_NO_MAP → result ≡ status_in
         (last_of (entries_to text_order inclusive from.now (entries_of map.old.seen)))
         (length key_out.old) }
-    ensures key { IsDone result → key_out.new ≡ key_written
+    ensures key { key_out.new ≡ key_written
         (last_of (entries_to text_order inclusive from.now (entries_of map.old.seen)))
         key_out.old }
-    ensures key_len { IsDone result → key_len.new ≡ key_len_or
+    ensures key_len { key_len.new ≡ key_len_or
         (last_of (entries_to text_order inclusive from.now (entries_of map.old.seen)))
         key_len.old }
-    ensures value { IsDone result → value.new ≡ value_in
+    ensures value { value.new ≡ value_in
         (last_of (entries_to text_order inclusive from.now (entries_of map.old.seen)))
         (length key_out.old) value.old }
-    ensures refused { IsRefusal result → (key_out.new ≡ key_out.old)
-        × (key_len.new ≡ key_len.old) × (value.new ≡ value.old) }
-    ensures takes_no_memory { length from.now ≤ 256 → result ≢ ART_NO_MEMORY }
     ensures same { map.new ≡ map.old }
 {
     let Some(held) = map.lent() else {
         return NO_MAP;
     };
     let room = key_out.len();
-    let found = held.previous(alloc, from, inclusive, key_out);
-    match found {
-        Ok(found) => entry_status(found, room, key_len, value),
-        Err(_) => NO_MEMORY,
-    }
+    let found = held.previous(from, inclusive, key_out);
+    entry_status(found, room, key_len, value)
 }
 
 /// Finds the first entry at a key or after it, of those whose keys begin with a prefix.
 #[unsafe(no_mangle)]
 pub extern "C" fn art_bytes_next_with_prefix(
-    alloc: Global,
     map: &mut BytesView,
     prefix: &[u8],
     from: &[u8],
@@ -339,43 +263,37 @@ pub extern "C" fn art_bytes_next_with_prefix(
     value: &mut u64,
 ) -> u32
     ensures no_map { (result ≡ ART_NO_MAP) ↔ (map.old.seen ≡ None) }
-    ensures status { IsDone result → result ≡ status_in
+    ensures never_no_memory { result ≢ ART_NO_MEMORY }
+    ensures status { result ≢ ART_NO_MAP → result ≡ status_in
         (first_of (entries_from text_order inclusive from.now
         (entries_with_prefix prefix.now (entries_of map.old.seen))))
         (length key_out.old) }
-    ensures key { IsDone result → key_out.new ≡ key_written
+    ensures key { key_out.new ≡ key_written
         (first_of (entries_from text_order inclusive from.now
         (entries_with_prefix prefix.now (entries_of map.old.seen))))
         key_out.old }
-    ensures key_len { IsDone result → key_len.new ≡ key_len_or
+    ensures key_len { key_len.new ≡ key_len_or
         (first_of (entries_from text_order inclusive from.now
         (entries_with_prefix prefix.now (entries_of map.old.seen))))
         key_len.old }
-    ensures value { IsDone result → value.new ≡ value_in
+    ensures value { value.new ≡ value_in
         (first_of (entries_from text_order inclusive from.now
         (entries_with_prefix prefix.now (entries_of map.old.seen))))
         (length key_out.old) value.old }
-    ensures refused { IsRefusal result → (key_out.new ≡ key_out.old)
-        × (key_len.new ≡ key_len.old) × (value.new ≡ value.old) }
-    ensures takes_no_memory { length prefix.now ≤ 256 → length from.now ≤ 256 → result ≢ ART_NO_MEMORY }
     ensures same { map.new ≡ map.old }
 {
     let Some(held) = map.lent() else {
         return NO_MAP;
     };
     let room = key_out.len();
-    let found = held.next_with_prefix(alloc, prefix, from, inclusive, key_out);
-    match found {
-        Ok(found) => entry_status(found, room, key_len, value),
-        Err(_) => NO_MEMORY,
-    }
+    let found = held.next_with_prefix(prefix, from, inclusive, key_out);
+    entry_status(found, room, key_len, value)
 }
 
 /// Writes out the first entries at a key or after it, of those whose keys begin with a prefix: as many as the
 /// buffers hold.
 #[unsafe(no_mangle)]
 pub extern "C" fn art_bytes_next_many(
-    alloc: Global,
     map: &mut BytesView,
     prefix: &[u8],
     from: &[u8],
@@ -387,7 +305,8 @@ pub extern "C" fn art_bytes_next_many(
     key_len: &mut usize,
 ) -> u32
     ensures no_map { (result ≡ ART_NO_MAP) ↔ (map.old.seen ≡ None) }
-    ensures status { IsDone result → result ≡ batch_status
+    ensures never_no_memory { result ≢ ART_NO_MEMORY }
+    ensures status { result ≢ ART_NO_MAP → result ≡ batch_status
         (length (next_fitting
         (min (length ends.old) (length values.old)) (length keys.old)
         prefix.now inclusive from.now (entries_of map.old.seen)))
@@ -396,44 +315,39 @@ pub extern "C" fn art_bytes_next_many(
         prefix.now inclusive from.now (entries_of map.old.seen))
         (first_of (entries_from text_order inclusive from.now
         (entries_with_prefix prefix.now (entries_of map.old.seen))))) }
-    ensures count { IsDone result → count.new ≡ length (next_fitting
+    ensures count { result ≢ ART_NO_MAP → count.new ≡ length (next_fitting
         (min (length ends.old) (length values.old)) (length keys.old)
         prefix.now inclusive from.now (entries_of map.old.seen)) }
-    ensures keys { IsDone result → keys.new ≡ begun_with (joined (keys_of (next_fitting
+    ensures keys { result ≢ ART_NO_MAP → keys.new ≡ begun_with (joined (keys_of (next_fitting
         (min (length ends.old) (length values.old)) (length keys.old)
         prefix.now inclusive from.now (entries_of map.old.seen)))) keys.old }
-    ensures ends { IsDone result → ends.new ≡ begun_with (ends_of (next_fitting
+    ensures ends { result ≢ ART_NO_MAP → ends.new ≡ begun_with (ends_of (next_fitting
         (min (length ends.old) (length values.old)) (length keys.old)
         prefix.now inclusive from.now (entries_of map.old.seen))) ends.old }
-    ensures values { IsDone result → values.new ≡ begun_with (values_of (next_fitting
+    ensures values { result ≢ ART_NO_MAP → values.new ≡ begun_with (values_of (next_fitting
         (min (length ends.old) (length values.old)) (length keys.old)
         prefix.now inclusive from.now (entries_of map.old.seen))) values.old }
-    ensures key_len { IsDone result → key_len.new ≡ found_or
+    ensures key_len { result ≢ ART_NO_MAP → key_len.new ≡ found_or
         (unfit_len (next_fitting
         (min (length ends.old) (length values.old)) (length keys.old)
         prefix.now inclusive from.now (entries_of map.old.seen))
         (first_of (entries_from text_order inclusive from.now
         (entries_with_prefix prefix.now (entries_of map.old.seen))))) key_len.old }
-    ensures refused { IsRefusal result → (keys.new ≡ keys.old) × (ends.new ≡ ends.old)
+    ensures unchanged { result ≡ ART_NO_MAP → (keys.new ≡ keys.old) × (ends.new ≡ ends.old)
         × (values.new ≡ values.old) × (count.new ≡ count.old) × (key_len.new ≡ key_len.old) }
-    ensures takes_no_memory { length prefix.now ≤ 256 → length from.now ≤ 256 →
-        result ≢ ART_NO_MEMORY }
     ensures same { map.new ≡ map.old }
 {
     let Some(held) = map.lent() else {
         return NO_MAP;
     };
-    match held.next_many(alloc, prefix, from, inclusive, keys, ends, values) {
-        Ok((written, unfit)) => batch_status(written, unfit, count, key_len),
-        Err(_) => NO_MEMORY,
-    }
+    let (written, unfit) = held.next_many(prefix, from, inclusive, keys, ends, values);
+    batch_status(written, unfit, count, key_len)
 }
 
 /// Writes out the last entries at a key or before it, of those whose keys begin with a prefix, from the last one
 /// down: as many as the buffers hold.
 #[unsafe(no_mangle)]
 pub extern "C" fn art_bytes_previous_many(
-    alloc: Global,
     map: &mut BytesView,
     prefix: &[u8],
     from: &[u8],
@@ -445,7 +359,8 @@ pub extern "C" fn art_bytes_previous_many(
     key_len: &mut usize,
 ) -> u32
     ensures no_map { (result ≡ ART_NO_MAP) ↔ (map.old.seen ≡ None) }
-    ensures status { IsDone result → result ≡ batch_status
+    ensures never_no_memory { result ≢ ART_NO_MEMORY }
+    ensures status { result ≢ ART_NO_MAP → result ≡ batch_status
         (length (previous_fitting
         (min (length ends.old) (length values.old)) (length keys.old)
         prefix.now inclusive from.now (entries_of map.old.seen)))
@@ -454,37 +369,33 @@ pub extern "C" fn art_bytes_previous_many(
         prefix.now inclusive from.now (entries_of map.old.seen))
         (first_of (reverse (entries_to text_order inclusive from.now
         (entries_with_prefix prefix.now (entries_of map.old.seen)))))) }
-    ensures count { IsDone result → count.new ≡ length (previous_fitting
+    ensures count { result ≢ ART_NO_MAP → count.new ≡ length (previous_fitting
         (min (length ends.old) (length values.old)) (length keys.old)
         prefix.now inclusive from.now (entries_of map.old.seen)) }
-    ensures keys { IsDone result → keys.new ≡ begun_with (joined (keys_of (previous_fitting
+    ensures keys { result ≢ ART_NO_MAP → keys.new ≡ begun_with (joined (keys_of (previous_fitting
         (min (length ends.old) (length values.old)) (length keys.old)
         prefix.now inclusive from.now (entries_of map.old.seen)))) keys.old }
-    ensures ends { IsDone result → ends.new ≡ begun_with (ends_of (previous_fitting
+    ensures ends { result ≢ ART_NO_MAP → ends.new ≡ begun_with (ends_of (previous_fitting
         (min (length ends.old) (length values.old)) (length keys.old)
         prefix.now inclusive from.now (entries_of map.old.seen))) ends.old }
-    ensures values { IsDone result → values.new ≡ begun_with (values_of (previous_fitting
+    ensures values { result ≢ ART_NO_MAP → values.new ≡ begun_with (values_of (previous_fitting
         (min (length ends.old) (length values.old)) (length keys.old)
         prefix.now inclusive from.now (entries_of map.old.seen))) values.old }
-    ensures key_len { IsDone result → key_len.new ≡ found_or
+    ensures key_len { result ≢ ART_NO_MAP → key_len.new ≡ found_or
         (unfit_len (previous_fitting
         (min (length ends.old) (length values.old)) (length keys.old)
         prefix.now inclusive from.now (entries_of map.old.seen))
         (first_of (reverse (entries_to text_order inclusive from.now
         (entries_with_prefix prefix.now (entries_of map.old.seen)))))) key_len.old }
-    ensures refused { IsRefusal result → (keys.new ≡ keys.old) × (ends.new ≡ ends.old)
+    ensures unchanged { result ≡ ART_NO_MAP → (keys.new ≡ keys.old) × (ends.new ≡ ends.old)
         × (values.new ≡ values.old) × (count.new ≡ count.old) × (key_len.new ≡ key_len.old) }
-    ensures takes_no_memory { length prefix.now ≤ 256 → length from.now ≤ 256 →
-        result ≢ ART_NO_MEMORY }
     ensures same { map.new ≡ map.old }
 {
     let Some(held) = map.lent() else {
         return NO_MAP;
     };
-    match held.previous_many(alloc, prefix, from, inclusive, keys, ends, values) {
-        Ok((written, unfit)) => batch_status(written, unfit, count, key_len),
-        Err(_) => NO_MEMORY,
-    }
+    let (written, unfit) = held.previous_many(prefix, from, inclusive, keys, ends, values);
+    batch_status(written, unfit, count, key_len)
 }
 
 /// Finds the entry with the least key.
@@ -548,30 +459,22 @@ pub extern "C" fn art_bytes_pop_first(
     value: &mut u64,
 ) -> u32
     ensures no_map { (result ≡ ART_NO_MAP) ↔ (map.old.held ≡ None) }
+    ensures never_no_memory { result ≢ ART_NO_MEMORY }
     ensures removed { result ≡ ART_SOME → map.new.held ≡ Some (drop 1 (entries_of map.old.held)) }
     ensures same_entries { result ≢ ART_SOME → map.new.held ≡ map.old.held }
-    ensures status { IsDone result → result
+    ensures status { result ≢ ART_NO_MAP → result
         ≡ status_in (first_of (entries_of map.old.held)) (length key_out.old) }
-    ensures key { IsDone result →
-        key_out.new ≡ key_written (first_of (entries_of map.old.held)) key_out.old }
-    ensures key_len { IsDone result →
-        key_len.new ≡ key_len_or (first_of (entries_of map.old.held)) key_len.old }
-    ensures value { IsDone result → value.new
+    ensures key { key_out.new ≡ key_written (first_of (entries_of map.old.held)) key_out.old }
+    ensures key_len { key_len.new ≡ key_len_or (first_of (entries_of map.old.held)) key_len.old }
+    ensures value { value.new
         ≡ value_in (first_of (entries_of map.old.held)) (length key_out.old) value.old }
-    ensures refused_for_memory { result ≡ ART_NO_MEMORY →
-        key_fits (first_of (entries_of map.old.held)) (length key_out.old) ≡ true }
-    ensures refused { IsRefusal result → (key_out.new ≡ key_out.old)
-        × (key_len.new ≡ key_len.old) × (value.new ≡ value.old) }
 {
     let Some(held) = map.lent_mut() else {
         return NO_MAP;
     };
     let room = key_out.len();
     let found = held.pop_first(key_out);
-    match found {
-        Ok(found) => entry_status(found, room, key_len, value),
-        Err(_) => NO_MEMORY,
-    }
+    entry_status(found, room, key_len, value)
 }
 
 /// Finds the entry with the greatest key, and removes it where its key fits.
@@ -583,54 +486,41 @@ pub extern "C" fn art_bytes_pop_last(
     value: &mut u64,
 ) -> u32
     ensures no_map { (result ≡ ART_NO_MAP) ↔ (map.old.held ≡ None) }
+    ensures never_no_memory { result ≢ ART_NO_MEMORY }
     ensures removed { result ≡ ART_SOME → map.new.held ≡ Some (take (length (entries_of map.old.held) - 1) (entries_of map.old.held)) }
     ensures same_entries { result ≢ ART_SOME → map.new.held ≡ map.old.held }
-    ensures status { IsDone result → result
+    ensures status { result ≢ ART_NO_MAP → result
         ≡ status_in (last_of (entries_of map.old.held)) (length key_out.old) }
-    ensures key { IsDone result →
-        key_out.new ≡ key_written (last_of (entries_of map.old.held)) key_out.old }
-    ensures key_len { IsDone result →
-        key_len.new ≡ key_len_or (last_of (entries_of map.old.held)) key_len.old }
-    ensures value { IsDone result → value.new
+    ensures key { key_out.new ≡ key_written (last_of (entries_of map.old.held)) key_out.old }
+    ensures key_len { key_len.new ≡ key_len_or (last_of (entries_of map.old.held)) key_len.old }
+    ensures value { value.new
         ≡ value_in (last_of (entries_of map.old.held)) (length key_out.old) value.old }
-    ensures refused_for_memory { result ≡ ART_NO_MEMORY →
-        key_fits (last_of (entries_of map.old.held)) (length key_out.old) ≡ true }
-    ensures refused { IsRefusal result → (key_out.new ≡ key_out.old)
-        × (key_len.new ≡ key_len.old) × (value.new ≡ value.old) }
 {
     let Some(held) = map.lent_mut() else {
         return NO_MAP;
     };
     let room = key_out.len();
     let found = held.pop_last(key_out);
-    match found {
-        Ok(found) => entry_status(found, room, key_len, value),
-        Err(_) => NO_MEMORY,
-    }
+    entry_status(found, room, key_len, value)
 }
 
-/// How many keys begin with these bytes, 0 where there is no map, or the greatest `usize` where memory
-/// for them is refused.
+/// How many keys begin with these bytes, 0 where there is no map.
 #[unsafe(no_mangle)]
-pub extern "C" fn art_bytes_count_prefix(alloc: Global, map: &mut BytesView, prefix: &[u8]) -> usize
-    ensures count { (result ≡ length (entries_with_prefix prefix.now (entries_of map.old.seen)))
-        ⊎ (result ≡ 2 ^ 64 - 1) }
-    ensures takes_no_memory { length prefix.now ≤ 256 →
-        result ≡ length (entries_with_prefix prefix.now (entries_of map.old.seen)) }
+pub extern "C" fn art_bytes_count_prefix(map: &mut BytesView, prefix: &[u8]) -> usize
+    ensures count { result ≡ length (entries_with_prefix prefix.now (entries_of map.old.seen)) }
     ensures same { map.new ≡ map.old }
 {
     let Some(held) = map.lent() else {
         return 0;
     };
-    let counted = held.count_prefix(alloc, prefix);
-    counted.unwrap_or(usize::MAX)
+    let count = held.count_prefix(prefix);
+    count
 }
 
 /// Looks up many keys, as many as the shortest of `ends`, `found` and `values` holds: which of them are found, with a
 /// 1 or a 0 each, and the values of those. Writes out how many were looked up.
 #[unsafe(no_mangle)]
 pub extern "C" fn art_bytes_get_many(
-    alloc: Global,
     map: &mut BytesView,
     keys: &[u8],
     ends: &[usize],
@@ -639,17 +529,14 @@ pub extern "C" fn art_bytes_get_many(
     count: &mut usize,
 ) -> u32
     ensures no_map { (result ≡ ART_NO_MAP) ↔ (map.old.seen ≡ None) }
-    ensures status { IsDone result → result ≡ ART_NONE }
-    ensures all { IsDone result →
+    ensures status { result ≢ ART_NO_MAP → result ≡ ART_NONE }
+    ensures count { result ≢ ART_NO_MAP →
         count.new ≡ min (length ends.now) (min (length found.old) (length values.old)) }
-    ensures stopped { result ≡ ART_NO_MEMORY →
-        count.new < min (length ends.now) (min (length found.old) (length values.old)) }
     ensures found { result ≢ ART_NO_MAP → found.new ≡ begun_with
         (are_found (value_of text_order (entries_of map.old.seen)) (take count.new (cut keys.now ends.now))) found.old }
     ensures values { result ≢ ART_NO_MAP → values.new ≡ begun_with
         (found_values (value_of text_order (entries_of map.old.seen))
         (take count.new (zip (cut keys.now ends.now) values.old))) values.old }
-    ensures takes_no_memory { All (λ key. length key ≤ 256) (cut keys.now ends.now) → result ≢ ART_NO_MEMORY }
     ensures unchanged { result ≡ ART_NO_MAP →
         (found.new ≡ found.old) × (values.new ≡ values.old) × (count.new ≡ count.old) }
     ensures same { map.new ≡ map.old }
@@ -657,12 +544,9 @@ pub extern "C" fn art_bytes_get_many(
     let Some(held) = map.lent() else {
         return NO_MAP;
     };
-    let (done, looked_up) = held.get_many(alloc, keys, ends, found, values);
+    let done = held.get_many(keys, ends, found, values);
     *count = done;
-    match looked_up {
-        Ok(_) => NONE,
-        Err(_) => NO_MEMORY,
-    }
+    NONE
 }
 
 /// Sets the values of many keys one after another, as many as the shorter of `ends` and `values` holds, and writes
@@ -684,9 +568,11 @@ pub extern "C" fn art_bytes_insert_many(
     ensures stopped { (result ≡ ART_NO_MEMORY) ⊎ (result ≡ ART_KEY_TOO_LONG) →
         done.new < length (zip (cut keys.now ends.now) values.now) }
     ensures too_long { result ≡ ART_KEY_TOO_LONG →
-        2 ^ 32 ≤ length (escaped_text (get_or (cut keys.now ends.now) done.new [])) }
+        IsTooLong (get_or (cut keys.now ends.now) done.new []) }
     ensures not_too_long { result ≡ ART_NO_MEMORY →
-        length (escaped_text (get_or (cut keys.now ends.now) done.new [])) < 2 ^ 32 }
+        IsNotTooLong (get_or (cut keys.now ends.now) done.new []) }
+    ensures no_entry { result ≡ ART_NO_MEMORY → value_of text_order (entries_of map.new.held)
+        (get_or (cut keys.now ends.now) done.new []) ≡ None }
     ensures unchanged { result ≡ ART_NO_MAP →
         (map.new.held ≡ map.old.held) × (done.new ≡ done.old) }
 {

@@ -8,6 +8,7 @@ mod bytes;
 mod bytes_handle;
 mod bytes_view;
 mod loads;
+mod networks;
 mod number_handle;
 mod number_view;
 mod numbers;

@@ -1,5 +1,5 @@
 //! The exports for maps by numbers.
-ghost use Rattle.std.specs.Prelude.{◌≡◌, ◌≢◌, ◌-◌, ◌<◌, ◌⊎◌, ◌↔◌, [], None, Some, IfOk, IsSome, OnErr, drop, get_or, length, min, take};
+ghost use Rattle.std.specs.Prelude.{◌≡◌, ◌≢◌, ◌-◌, ◌<◌, ◌⊎◌, ◌↔◌, [], None, Some, IsSome, drop, get_or, length, min, take};
 ghost use Rattle.std.specs.List.{zip};
 ghost use Rattle.std.specs.Option.{option_map};
 ghost use Rattle.std.specs.Ordering.{nat_cmp};
@@ -12,11 +12,12 @@ use crate::number_handle::NumberHandle;
 use crate::number_view::NumberView;
 use crate::statuses::{HAS_MAP, NO_MAP, NO_MEMORY, NONE, SOME};
 use art_c_maps::NumberMap;
-use std::alloc::{AllocError, Global};
+use std::alloc::Global;
 
 // The status of a call that finds a value, which is written out.
 pub(crate) fn value_status(found: Option<u64>, value: &mut u64) -> u32
     ensures status { result ≡ status_of found }
+    ensures never_no_memory { result ≢ ART_NO_MEMORY }
     ensures value { value.new ≡ found_or found value.old }
 {
     match found {
@@ -28,20 +29,10 @@ pub(crate) fn value_status(found: Option<u64>, value: &mut u64) -> u32
     }
 }
 
-// The same, where memory may be refused.
-fn changed_status(changed: Result<Option<u64>, AllocError>, value: &mut u64) -> u32
-    ensures done { IfOk changed (λ found. (result ≡ status_of found) × (value.new ≡ found_or found value.old)) }
-    ensures refused { OnErr changed ((result ≡ ART_NO_MEMORY) × (value.new ≡ value.old)) }
-{
-    match changed {
-        Ok(found) => value_status(found, value),
-        Err(_) => NO_MEMORY,
-    }
-}
-
 // The status of a call that finds an entry, which is written out.
 fn entry_status(found: Option<(u64, u64)>, key: &mut u64, value: &mut u64) -> u32
     ensures status { result ≡ status_of found }
+    ensures never_no_memory { result ≢ ART_NO_MEMORY }
     ensures key { key.new ≡ number_or found key.old }
     ensures value { value.new ≡ value_or found value.old }
 {
@@ -109,40 +100,6 @@ pub extern "C" fn art_u64_clear(map: &mut NumberHandle)
     held.clear();
 }
 
-/// Reserves memory for more entries.
-#[unsafe(no_mangle)]
-pub extern "C" fn art_u64_reserve(map: &mut NumberHandle, additional: usize) -> u32
-    ensures no_map { (result ≡ ART_NO_MAP) ↔ (map.old.held ≡ None) }
-    ensures status { IsDone result → result ≡ ART_NONE }
-    ensures same_entries { map.new.held ≡ map.old.held }
-{
-    let Some(held) = map.lent_mut() else {
-        return NO_MAP;
-    };
-    let reserved = held.reserve(additional);
-    match reserved {
-        Ok(_) => NONE,
-        Err(_) => NO_MEMORY,
-    }
-}
-
-/// Puts the entries into memory in the order of their keys, with room for just them.
-#[unsafe(no_mangle)]
-pub extern "C" fn art_u64_compact(map: &mut NumberHandle) -> u32
-    ensures no_map { (result ≡ ART_NO_MAP) ↔ (map.old.held ≡ None) }
-    ensures status { IsDone result → result ≡ ART_NONE }
-    ensures same_entries { map.new.held ≡ map.old.held }
-{
-    let Some(held) = map.lent_mut() else {
-        return NO_MAP;
-    };
-    let compacted = held.compact();
-    match compacted {
-        Ok(_) => NONE,
-        Err(_) => NO_MEMORY,
-    }
-}
-
 /// Sets the value of a key, and writes out the one that it had.
 #[unsafe(no_mangle)]
 pub extern "C" fn art_u64_insert(
@@ -166,7 +123,10 @@ pub extern "C" fn art_u64_insert(
         return NO_MAP;
     };
     let inserted = held.insert(key, value);
-    changed_status(inserted, before)
+    match inserted {
+        Ok(found) => value_status(found, before),
+        Err(_) => NO_MEMORY,
+    }
 }
 
 /// Finds the value of a key.
@@ -190,22 +150,17 @@ pub extern "C" fn art_u64_get(map: &mut NumberView, key: u64, value: &mut u64) -
 #[unsafe(no_mangle)]
 pub extern "C" fn art_u64_remove(map: &mut NumberHandle, key: u64, value: &mut u64) -> u32
     ensures no_map { (result ≡ ART_NO_MAP) ↔ (map.old.held ≡ None) }
-    ensures entries { IsDone result →
-        map.new.held ≡ Some (without nat_cmp (entries_of map.old.held) key) }
-    ensures status { IsDone result →
+    ensures never_no_memory { result ≢ ART_NO_MEMORY }
+    ensures entries { map.new.held ≡ option_map (λ entries. without nat_cmp entries key) map.old.held }
+    ensures status { result ≢ ART_NO_MAP →
         result ≡ status_of (value_of nat_cmp (entries_of map.old.held) key) }
-    ensures value { IsDone result →
-        value.new ≡ found_or (value_of nat_cmp (entries_of map.old.held) key) value.old }
-    ensures refused_for_memory { result ≡ ART_NO_MEMORY →
-        value_of nat_cmp (entries_of map.old.held) key ≢ None }
-    ensures refused { IsRefusal result →
-        (map.new.held ≡ map.old.held) × (value.new ≡ value.old) }
+    ensures value { value.new ≡ found_or (value_of nat_cmp (entries_of map.old.held) key) value.old }
 {
     let Some(held) = map.lent_mut() else {
         return NO_MAP;
     };
     let removed = held.remove(key);
-    changed_status(removed, value)
+    value_status(removed, value)
 }
 
 /// Finds the first entry at a key or after it.
@@ -294,48 +249,34 @@ pub extern "C" fn art_u64_last(map: &mut NumberView, key: &mut u64, value: &mut 
 #[unsafe(no_mangle)]
 pub extern "C" fn art_u64_pop_first(map: &mut NumberHandle, key: &mut u64, value: &mut u64) -> u32
     ensures no_map { (result ≡ ART_NO_MAP) ↔ (map.old.held ≡ None) }
-    ensures entries { IsDone result → map.new.held ≡ Some (drop 1 (entries_of map.old.held)) }
-    ensures status { IsDone result → result ≡ status_of (first_of (entries_of map.old.held)) }
-    ensures key { IsDone result →
-        key.new ≡ number_or (first_of (entries_of map.old.held)) key.old }
-    ensures value { IsDone result →
-        value.new ≡ value_or (first_of (entries_of map.old.held)) value.old }
-    ensures refused_for_memory { result ≡ ART_NO_MEMORY → entries_of map.old.held ≢ [] }
-    ensures refused { IsRefusal result →
-        (map.new.held ≡ map.old.held) × (key.new ≡ key.old) × (value.new ≡ value.old) }
+    ensures never_no_memory { result ≢ ART_NO_MEMORY }
+    ensures entries { map.new.held ≡ option_map (λ entries. drop 1 entries) map.old.held }
+    ensures status { result ≢ ART_NO_MAP → result ≡ status_of (first_of (entries_of map.old.held)) }
+    ensures key { key.new ≡ number_or (first_of (entries_of map.old.held)) key.old }
+    ensures value { value.new ≡ value_or (first_of (entries_of map.old.held)) value.old }
 {
     let Some(held) = map.lent_mut() else {
         return NO_MAP;
     };
     let removed = held.pop_first();
-    match removed {
-        Ok(removed) => entry_status(removed, key, value),
-        Err(_) => NO_MEMORY,
-    }
+    entry_status(removed, key, value)
 }
 
 /// Removes the entry with the greatest key, and writes it out.
 #[unsafe(no_mangle)]
 pub extern "C" fn art_u64_pop_last(map: &mut NumberHandle, key: &mut u64, value: &mut u64) -> u32
     ensures no_map { (result ≡ ART_NO_MAP) ↔ (map.old.held ≡ None) }
-    ensures entries { IsDone result → map.new.held ≡ Some (take (length (entries_of map.old.held) - 1) (entries_of map.old.held)) }
-    ensures status { IsDone result → result ≡ status_of (last_of (entries_of map.old.held)) }
-    ensures key { IsDone result →
-        key.new ≡ number_or (last_of (entries_of map.old.held)) key.old }
-    ensures value { IsDone result →
-        value.new ≡ value_or (last_of (entries_of map.old.held)) value.old }
-    ensures refused_for_memory { result ≡ ART_NO_MEMORY → entries_of map.old.held ≢ [] }
-    ensures refused { IsRefusal result →
-        (map.new.held ≡ map.old.held) × (key.new ≡ key.old) × (value.new ≡ value.old) }
+    ensures never_no_memory { result ≢ ART_NO_MEMORY }
+    ensures entries { map.new.held ≡ option_map (λ entries. take (length entries - 1) entries) map.old.held }
+    ensures status { result ≢ ART_NO_MAP → result ≡ status_of (last_of (entries_of map.old.held)) }
+    ensures key { key.new ≡ number_or (last_of (entries_of map.old.held)) key.old }
+    ensures value { value.new ≡ value_or (last_of (entries_of map.old.held)) value.old }
 {
     let Some(held) = map.lent_mut() else {
         return NO_MAP;
     };
     let removed = held.pop_last();
-    match removed {
-        Ok(removed) => entry_status(removed, key, value),
-        Err(_) => NO_MEMORY,
-    }
+    entry_status(removed, key, value)
 }
 
 /// Writes out the first entries at a key or after it, as many as the shorter of both arrays holds. Returns

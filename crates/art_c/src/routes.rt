@@ -9,9 +9,9 @@ ghost use Rattle.art_routes.specs.Tables.{IsLongest, IsParent, NoneAround, NoneC
 ghost use Rattle.art_c.specs.Handles.{entries_of};
 ghost use Rattle.art_c.specs.RouteStatuses.{IsRouted, IsUnrouted, length_in, route_status, route_value_in, width_or};
 ghost use Rattle.art_c.specs.Statuses.{ART_BAD_NETWORK, ART_HAS_MAP, ART_NONE, ART_NO_MAP, ART_NO_MEMORY, ART_SMALL_BUFFER, ART_SOME, IsDone, found_or, status_of};
-ghost use Rattle.art_c_maps.specs.Entries.{begun_with, first_of, values_of};
+ghost use Rattle.art_c_maps.specs.Entries.{begun_with, first_of, last_of, values_of};
 ghost use Rattle.art_c_routes.specs.Addresses.{address_in, is_address, is_network, is_width, network_in};
-ghost use Rattle.art_c_routes.specs.Found.{IsMatched, address_written, lengths_of, routes_from};
+ghost use Rattle.art_c_routes.specs.Found.{IsMatched, address_written, lengths_of, routes_from, routes_to};
 ghost use Rattle.art_c_routes.specs.Refusals.{StopsRemoving};
 
 use crate::numbers::value_status;
@@ -165,6 +165,40 @@ pub extern "C" fn art_routes_insert(
     let inserted = held.insert(address, length, value);
     match inserted {
         Ok(found) => value_status(found, before),
+        Err(Refusal::BadNetwork) => BAD_NETWORK,
+        Err(Refusal::OutOfMemory) => NO_MEMORY,
+    }
+}
+
+/// Finds the value of the route to a network, and adds one with this value where there is none.
+#[unsafe(no_mangle)]
+pub extern "C" fn art_routes_get_or_insert(
+    table: &mut RoutesHandle,
+    address: &[u8],
+    length: u8,
+    value: u64,
+    found: &mut u64,
+) -> u32
+    ensures no_map { (result ≡ ART_NO_MAP) ↔ (table.old.held ≡ None) }
+    ensures bad_network { result ≢ ART_NO_MAP →
+        (result ≡ ART_BAD_NETWORK) ↔ (is_network address.now length ≡ false) }
+    ensures status { IsRouted result →
+        result ≡ status_of (value_of (entries_of table.old.held) (network_in address.now length)) }
+    ensures found { IsRouted result → found.new
+        ≡ found_or (value_of (entries_of table.old.held) (network_in address.now length)) found.old }
+    ensures added { result ≡ ART_NONE →
+        table.new.held ≡ Some (put_route (entries_of table.old.held) (network_in address.now length) value) }
+    ensures kept { result ≢ ART_NONE → table.new.held ≡ table.old.held }
+    ensures no_route { result ≡ ART_NO_MEMORY →
+        value_of (entries_of table.old.held) (network_in address.now length) ≡ None }
+    ensures refused { IsUnrouted result → found.new ≡ found.old }
+{
+    let Some(held) = table.lent_mut() else {
+        return NO_MAP;
+    };
+    let looked_up = held.get_or_insert(address, length, value);
+    match looked_up {
+        Ok(there) => value_status(there, found),
         Err(Refusal::BadNetwork) => BAD_NETWORK,
         Err(Refusal::OutOfMemory) => NO_MEMORY,
     }
@@ -435,6 +469,51 @@ pub extern "C" fn art_routes_next(
     };
     let room = address_out.len();
     let found = held.next(from, from_length, inclusive, address_out);
+    match found {
+        Ok(found) => found_status(found, room, width, length, value),
+        Err(_) => BAD_NETWORK,
+    }
+}
+
+/// Finds the last route at a network or before it, in the order of networks.
+#[unsafe(no_mangle)]
+pub extern "C" fn art_routes_previous(
+    table: &mut RoutesView,
+    to: &[u8],
+    to_length: u8,
+    inclusive: bool,
+    address_out: &mut [u8],
+    width: &mut usize,
+    length: &mut u8,
+    value: &mut u64,
+) -> u32
+    ensures no_map { (result ≡ ART_NO_MAP) ↔ (table.old.seen ≡ None) }
+    ensures bad_network { result ≢ ART_NO_MAP →
+        (result ≡ ART_BAD_NETWORK) ↔ (is_network to.now to_length ≡ false) }
+    ensures status { (result ≢ ART_NO_MAP) × (result ≢ ART_BAD_NETWORK) → result ≡ route_status
+        (last_of (routes_to inclusive (network_in to.now to_length) (entries_of table.old.seen)))
+        (list_length address_out.old) }
+    ensures address { (result ≢ ART_NO_MAP) × (result ≢ ART_BAD_NETWORK) → address_out.new ≡ address_written
+        (last_of (routes_to inclusive (network_in to.now to_length) (entries_of table.old.seen)))
+        address_out.old }
+    ensures width { (result ≢ ART_NO_MAP) × (result ≢ ART_BAD_NETWORK) → width.new ≡ width_or
+        (last_of (routes_to inclusive (network_in to.now to_length) (entries_of table.old.seen)))
+        width.old }
+    ensures length { (result ≢ ART_NO_MAP) × (result ≢ ART_BAD_NETWORK) → length.new ≡ length_in
+        (last_of (routes_to inclusive (network_in to.now to_length) (entries_of table.old.seen)))
+        (list_length address_out.old) length.old }
+    ensures value { (result ≢ ART_NO_MAP) × (result ≢ ART_BAD_NETWORK) → value.new ≡ route_value_in
+        (last_of (routes_to inclusive (network_in to.now to_length) (entries_of table.old.seen)))
+        (list_length address_out.old) value.old }
+    ensures refused { (result ≡ ART_NO_MAP) ⊎ (result ≡ ART_BAD_NETWORK) → (address_out.new ≡ address_out.old)
+        × (width.new ≡ width.old) × (length.new ≡ length.old) × (value.new ≡ value.old) }
+    ensures same { table.new ≡ table.old }
+{
+    let Some(held) = table.lent() else {
+        return NO_MAP;
+    };
+    let room = address_out.len();
+    let found = held.previous(to, to_length, inclusive, address_out);
     match found {
         Ok(found) => found_status(found, room, width, length, value),
         Err(_) => BAD_NETWORK,

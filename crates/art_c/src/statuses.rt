@@ -19,3 +19,11 @@ pub(crate) const NOT_EMPTY: u32 = 7;
 pub(crate) const NOT_ASCENDING: u32 = 8;
 
 pub(crate) const BAD_NETWORK: u32 = 9;
+
+// The changes by which a table becomes as another, as the header names them.
+
+pub(crate) const INSERT: u8 = 0;
+
+pub(crate) const REMOVE: u8 = 1;
+
+pub(crate) const REPLACE: u8 = 2;

@@ -7,5 +7,5 @@ ghost use Rattle.art_c.specs.Version.{ART_VERSION};
 pub extern "C" fn art_version() -> u32
     ensures version { result ≡ ART_VERSION }
 {
-    100
+    200
 }

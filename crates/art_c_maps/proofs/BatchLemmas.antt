@@ -3,10 +3,9 @@ use Rattle.std.proofs.Common.{◌≡◌, ◌<◌, ◌≤◌, ◌+◌, ◌-◌, �
 use Rattle.std.specs.Option.{option_map}
 use Rattle.std.specs.Prelude.{◌≢◌}
 use Rattle.std.proofs.lemmas.Bool.{le-leb, lt-leb}
-use Rattle.std.proofs.lemmas.List.{append-nil, drop_all, drop-append-le, drop-drop, length-drop, length-map, length-take, take_all, take-append-le, take-map}
+use Rattle.std.proofs.lemmas.List.{append-nil, drop_all, drop-append-le, drop-drop, length-map, length-take, take_all, take-append-le, take-map}
 use Rattle.art_c_maps.specs.Batch.{ends_after, ends_of, fit_count, joined, unfit_len}
 use Rattle.art_c_maps.specs.Entries.{begun_with, first_of, keys_of, values_of}
-use Rattle.art_c_maps.specs.Unescaped.{written}
 
 abbrev Entry : Type 0
 Entry = List ℕ × ℕ
@@ -93,24 +92,14 @@ take-ends start (suc n) [] = refl
 take-ends start (suc n) (y ∷ all) = ap (λ ends. (start + length y.0) ∷ ends) (take-ends (start + length y.0) n all)
 
 -- a key is written behind those so far
-pub key-written : (so_far bytes buffer keys : List ℕ) (at : ℕ) → keys ≡ so_far ++ drop at buffer → at ≡ length so_far → at + length bytes ≤ length buffer
-    → take at keys ++ written bytes (drop at keys) ≡ (so_far ++ bytes) ++ drop (at + length bytes) buffer
-key-written so_far bytes buffer keys at is long fits =
+pub key-written : (so_far bytes buffer keys : List ℕ) (at : ℕ) → keys ≡ so_far ++ drop at buffer → at ≡ length so_far
+    → (take at keys ++ bytes) ++ drop (at + length bytes) keys ≡ (so_far ++ bytes) ++ drop (at + length bytes) buffer
+key-written so_far bytes buffer keys at is long =
     let front : take at keys ≡ so_far = ap (take at) is ∙ take-append-le at so_far (drop at buffer) (omega (arith, long)) ∙ take_all at so_far (omega (arith, long)) in
     let tail : drop at keys ≡ drop at buffer = ap (drop at) is ∙ drop-append-le at so_far (drop at buffer) (omega (arith, long)) ∙ ap (λ xs. xs ++ drop at buffer) (drop_all at so_far (omega (arith, long))) in
-    let room : length bytes ≤ length (drop at buffer) = omega (arith, fits, length-drop at buffer) in
-    let whole : written bytes (drop at buffer) ≡ bytes ++ drop (length bytes) (drop at buffer) = rw (le-leb (length bytes) (length (drop at buffer)) room) refl in
-    ap (λ xs. xs ++ written bytes (drop at keys)) front ∙ ap (λ xs. so_far ++ written bytes xs) tail ∙ ap (λ xs. so_far ++ xs) (whole ∙ ap (λ xs. bytes ++ xs) (drop-drop (length bytes) at buffer)) ∙ sym (append_assoc so_far bytes (drop (at + length bytes) buffer))
-
--- a key that does not fit is not written
-pub key-left : (so_far bytes buffer keys : List ℕ) (at : ℕ) → keys ≡ so_far ++ drop at buffer → at ≡ length so_far → at ≤ length buffer → length buffer - at < length bytes
-    → take at keys ++ written bytes (drop at keys) ≡ so_far ++ drop at buffer
-key-left so_far bytes buffer keys at is long within big =
-    let front : take at keys ≡ so_far = ap (take at) is ∙ take-append-le at so_far (drop at buffer) (omega (arith, long)) ∙ take_all at so_far (omega (arith, long)) in
-    let tail : drop at keys ≡ drop at buffer = ap (drop at) is ∙ drop-append-le at so_far (drop at buffer) (omega (arith, long)) ∙ ap (λ xs. xs ++ drop at buffer) (drop_all at so_far (omega (arith, long))) in
-    let short : length (drop at buffer) < length bytes = omega (arith, big, length-drop at buffer) in
-    let none : written bytes (drop at buffer) ≡ drop at buffer = rw (lt-leb (length bytes) (length (drop at buffer)) short) refl in
-    ap (λ xs. xs ++ written bytes (drop at keys)) front ∙ ap (λ xs. so_far ++ written bytes xs) tail ∙ ap (λ xs. so_far ++ xs) none
+    let behind : drop (at + length bytes) keys ≡ drop (at + length bytes) buffer =
+    sym (drop-drop (length bytes) at keys) ∙ ap (drop (length bytes)) tail ∙ drop-drop (length bytes) at buffer in
+    ap (λ xs. (xs ++ bytes) ++ drop (at + length bytes) keys) front ∙ ap (λ xs. (so_far ++ bytes) ++ xs) behind
 
 -- the buffers at the end, when no more entries fit than are written
 module _ (all : List Entry) (n k : ℕ) (is : n ≡ k) (enough : k ≤ length all) where

@@ -1,109 +1,106 @@
--- An entry that was found, read as key and value.
-use Rattle.std.proofs.Common.{◌≡◌, ◌≢◌, ◌≤◌, ◌∙◌, Bool, filter, ◌-◌, ℕ, List, [], ◌∷◌, ◌++◌, length, drop, reverse, take, Option, Some, None, IfSome, IfNone, Result, Ok, Err, IfOk, OnOk, OnErr, refl, sym, ap, subst, arith, length-append}
+-- An entry that was found, or removed, at an end of a list.
+use Rattle.std.proofs.Common.{◌≡◌, ◌≤◌, ◌∙◌, Bool, true, false, filter, ◌-◌, List, [], ◌∷◌, ◌++◌, length, drop, reverse, take, map, Option, Some, None, IfSome, IfNone, refl, sym, ap, arith, length-append}
 use Rattle.std.specs.Option.{MatchOption, option_map}
-use Rattle.std.specs.Prelude.{slice_get}
+use Rattle.std.specs.Prelude.{slice_get, if◌then◌else◌}
 use Rattle.std.specs.Borrow.{Bor}
 use Rattle.std.proofs.lemmas.List.{length-map, map-append, reverse-append}
 use Rattle.std.proofs.Math.Seq.{take-append_seam}
 use Rattle.std.proofs.lemmas.List.Sums.{count_by-le-length, length-filter}
 use Rattle.std.proofs.lemmas.Option.{slice_get-map}
-use Rattle.art_c_maps.specs.Entries.{entries_read, first_of, last_of}
-use Rattle.art_c_maps.specs.Unescaped.{len_and_value, unescaped}
+use Rattle.art_c_maps.specs.Batch.{toward}
+use Rattle.art_c_maps.specs.Entries.{first_of, last_of}
+use Rattle.art_c_maps.proofs.InBytesLemmas.{entry_read, reading}
 
 -- the last of a list is what it ends in
-get-last : {X : Type 0} (front : List X) (x : X) → slice_get (front ++ x ∷ []) (length front) ≡ Some x
-get-last [] x = refl
-get-last (y ∷ front) x = get-last front x
+last-is : {X : Type 0} (front : List X) (x : X) → slice_get (front ++ x ∷ []) (length (front ++ x ∷ []) - 1) ≡ Some x
+last-is {X} front x =
+    let long : length (front ++ x ∷ []) - 1 ≡ length front = omega (arith, length-append front (x ∷ [])) in
+    ap (slice_get (front ++ x ∷ [])) long ∙ get-last front
+  where
+    get-last : (ys : List X) → slice_get (ys ++ x ∷ []) (length ys) ≡ Some x
+    get-last [] = refl
+    get-last (y ∷ ys) = get-last ys
 
-module _ {T K V : Type 0} (read : List ℕ → K) (text : T → List ℕ) where
-  abbrev pub entry_read : T × V → K × V
-  entry_read entry = (read (text entry.0), entry.1)
-
+module _ {K V : Type 0} where
   -- behind references
-  abbrev pub now_of : Bor T × Bor V → T × V
+  abbrev pub now_of : Bor K × Bor V → K × V
   now_of item = (item.0.now, item.1.now)
 
-  read-now : (found : Option (Bor T × Bor V)) → option_map (λ item. (read (text item.0.now), item.1.now)) found ≡ option_map entry_read (option_map now_of found)
-  read-now None = refl
-  read-now (Some item) = refl
+  -- what an iterator yields from an end is there
+  pub first-yielded : (found : Option (Bor K × Bor V)) (all left : List (K × V)) (Empty : Type 0)
+      → MatchOption found ((all ≡ []) × Empty) (λ item. all ≡ now_of item ∷ left) → option_map now_of found ≡ first_of all
+  first-yielded None all left Empty yields = sym (ap first_of (yields.0))
+  first-yielded (Some item) all left Empty yields = sym (ap first_of yields)
 
-  -- an entry that was found among some is the one among those that are read
-  pub found-first : (found : Option (Bor T × Bor V)) (picked : List (T × V)) (all : List (K × V)) → option_map now_of found ≡ first_of picked → entries_read read text picked ≡ all
-      → option_map (λ item. (read (text item.0.now), item.1.now)) found ≡ first_of all
-  found-first found picked all is same = read-now found ∙ ap (option_map entry_read) is ∙ sym (slice_get-map entry_read picked 0) ∙ ap first_of same
+  pub last-yielded : (found : Option (Bor K × Bor V)) (all left : List (K × V)) (Empty : Type 0)
+      → MatchOption found ((all ≡ []) × Empty) (λ item. all ≡ left ++ now_of item ∷ []) → option_map now_of found ≡ last_of all
+  last-yielded None all left Empty yields = sym (ap last_of (yields.0))
+  last-yielded (Some item) all left Empty yields = sym (ap last_of yields ∙ last-is left (now_of item))
 
-  pub found-last : (found : Option (Bor T × Bor V)) (picked : List (T × V)) (all : List (K × V)) → option_map now_of found ≡ last_of picked → entries_read read text picked ≡ all
-      → option_map (λ item. (read (text item.0.now), item.1.now)) found ≡ last_of all
-  found-last found picked all is same =
-      read-now found ∙ ap (option_map entry_read) is ∙ sym (slice_get-map entry_read picked (length picked - 1))
-      ∙ ap (λ n. slice_get (entries_read read text picked) (n - 1)) (sym (length-map picked entry_read)) ∙ ap last_of same
+  -- what is removed at an end is there
+  pub removed-first : (removed : Option (K × V)) (before after : List (K × V)) → IfSome removed (λ entry. before ≡ entry ∷ after)
+      → IfNone removed (before ≡ []) → IfNone removed (after ≡ before) → (removed ≡ first_of before) × (after ≡ drop 1 before)
+  removed-first None before after some none same = (rw none refl, rw (same, none) refl)
+  removed-first (Some entry) before after some none same = (rw some refl, rw some refl)
 
-  -- an entry that was removed at an end is the one there among those that are read
-  pub removed-first : (removed : Option (T × V)) (before after : List (T × V)) → IfSome removed (λ entry. before ≡ entry ∷ after) → IfNone removed ((before ≡ []) × (after ≡ []))
-      → (option_map entry_read removed ≡ first_of (entries_read read text before)) × (entries_read read text after ≡ drop 1 (entries_read read text before))
-  removed-first None before after some none = (rw none.0 refl, rw (none.0, none.1) refl)
-  removed-first (Some entry) before after some none = (rw some refl, rw some refl)
+  pub removed-last : (removed : Option (K × V)) (before after : List (K × V)) → IfSome removed (λ entry. before ≡ after ++ entry ∷ [])
+      → IfNone removed (before ≡ []) → IfNone removed (after ≡ before) → (removed ≡ last_of before) × (after ≡ take (length before - 1) before)
+  removed-last None before after some none same = (rw none refl, rw (same, none) refl)
+  removed-last (Some entry) before after some none same =
+      let long : length (after ++ entry ∷ []) - 1 ≡ length after = omega (arith, length-append after (entry ∷ [])) in
+      (sym (ap last_of some ∙ last-is after entry), rw (some, long, take-append_seam after (entry ∷ [])) refl)
 
-  pub removed-last : (removed : Option (T × V)) (before after : List (T × V)) → IfSome removed (λ entry. before ≡ after ++ entry ∷ []) → IfNone removed ((before ≡ []) × (after ≡ []))
-      → (option_map entry_read removed ≡ last_of (entries_read read text before)) × (entries_read read text after ≡ take (length (entries_read read text before) - 1) (entries_read read text before))
-  removed-last None before after some none = (rw none.0 refl, rw (none.0, none.1) refl)
-  removed-last (Some entry) before after some none =
-      let rest = entries_read read text after in let last = entry_read entry in
-      let all : entries_read read text before ≡ rest ++ last ∷ [] = ap (entries_read read text) some ∙ map-append entry_read after (entry ∷ []) in
-      let long : length (rest ++ last ∷ []) - 1 ≡ length rest = omega (arith, length-append rest (last ∷ [])) in
-      (rw (all, long, get-last rest last) refl, rw (all, long, take-append_seam rest (last ∷ [])) refl)
+-- lists in reverse
+reverse-cons : {X : Type 0} (x : X) (xs : List X) → reverse (x ∷ xs) ≡ reverse xs ++ x ∷ []
+reverse-cons x xs = reverse-append (x ∷ []) xs
 
-  -- some entries are some where they are read
-  pub some-read : (before : List (T × V)) (all : List (K × V)) → entries_read read text before ≡ all → before ≢ [] → all ≢ []
-  some-read [] all same some none = some refl
-  some-read (entry ∷ before) all same some none = let wrong : entry_read entry ∷ entries_read read text before ≡ [] = same ∙ none in absurd (cc)
+map-reverse : {X Y : Type 0} (f : X → Y) (xs : List X) → reverse (map f xs) ≡ map f (reverse xs)
+map-reverse f [] = refl
+map-reverse f (x ∷ xs) =
+    reverse-cons (f x) (map f xs) ∙ ap (λ ys. ys ++ f x ∷ []) (map-reverse f xs) ∙ sym (map-append f (reverse xs) (x ∷ [])) ∙ ap (map f) (sym (reverse-cons x xs))
 
-  -- the entry that comes next is the next of those that are read
-  pub first-yielded : (item : Option (Bor T × Bor V)) (all left : List (T × V)) (Empty : Type 0) → MatchOption item ((all ≡ []) × Empty) (λ x. all ≡ now_of x ∷ left)
-      → (found : Option (K × V)) → found ≡ option_map (λ x. (read (text x.0.now), x.1.now)) item
-      → MatchOption found (entries_read read text all ≡ []) (λ entry. entries_read read text all ≡ entry ∷ entries_read read text left)
-  first-yielded None all left Empty yields found is = subst (λ f. MatchOption f (entries_read read text all ≡ []) (λ entry. entries_read read text all ≡ entry ∷ entries_read read text left)) (sym is) (ap (entries_read read text) yields.0)
-  first-yielded (Some x) all left Empty yields found is = subst (λ f. MatchOption f (entries_read read text all ≡ []) (λ entry. entries_read read text all ≡ entry ∷ entries_read read text left)) (sym is) (ap (entries_read read text) yields)
+-- the same of entries as they are read
+module _ {K J V : Type 0} (read : K → J) where
+  pub first-read : (found : Option (K × V)) (picked : List (K × V)) → found ≡ first_of picked → option_map (entry_read read) found ≡ first_of (reading read picked)
+  first-read found picked is = ap (option_map (entry_read read)) is ∙ sym (slice_get-map (entry_read read) picked 0)
 
-  pub last-yielded : (item : Option (Bor T × Bor V)) (all left : List (T × V)) (Empty : Type 0) → MatchOption item ((all ≡ []) × Empty) (λ x. all ≡ left ++ now_of x ∷ [])
-      → (found : Option (K × V)) → found ≡ option_map (λ x. (read (text x.0.now), x.1.now)) item
-      → MatchOption found (reverse (entries_read read text all) ≡ []) (λ entry. reverse (entries_read read text all) ≡ entry ∷ reverse (entries_read read text left))
-  last-yielded None all left Empty yields found is = subst (λ f. MatchOption f (reverse (entries_read read text all) ≡ []) (λ entry. reverse (entries_read read text all) ≡ entry ∷ reverse (entries_read read text left))) (sym is) (ap (λ es. reverse (entries_read read text es)) yields.0)
-  last-yielded (Some x) all left Empty yields found is =
-      let last = entry_read (now_of x) in
-      let down : reverse (entries_read read text all) ≡ last ∷ reverse (entries_read read text left) =
-      ap (λ es. reverse (entries_read read text es)) yields ∙ ap reverse (map-append entry_read left (now_of x ∷ [])) ∙ reverse-append (entries_read read text left) (last ∷ []) in
-      subst (λ f. MatchOption f (reverse (entries_read read text all) ≡ []) (λ entry. reverse (entries_read read text all) ≡ entry ∷ reverse (entries_read read text left))) (sym is) down
+  pub last-read : (found : Option (K × V)) (picked : List (K × V)) → found ≡ last_of picked → option_map (entry_read read) found ≡ last_of (reading read picked)
+  last-read found picked is =
+      ap (option_map (entry_read read)) is ∙ sym (slice_get-map (entry_read read) picked (length picked - 1))
+      ∙ ap (λ n. slice_get (reading read picked) (n - 1)) (sym (length-map picked (entry_read read)))
 
--- key's length and value of an entry that was found
-pub lengths-of : {T : Type 0} (text : T → List ℕ) (found : Option (Bor T × Bor ℕ)) → option_map (λ item. (length (unescaped (text item.0.now)), item.1.now)) found
-    ≡ option_map len_and_value (option_map (λ item. (unescaped (text item.0.now), item.1.now)) found)
-lengths-of text None = refl
-lengths-of text (Some item) = refl
+  -- behind references
+  pub now-read : (found : Option (Bor K × Bor V)) → option_map (λ item. (read item.0.now, item.1.now)) found ≡ option_map (entry_read read) (option_map now_of found)
+  now-read None = refl
+  now-read (Some item) = refl
 
-pub removed-lengths : {T : Type 0} (text : T → List ℕ) (removed : Option (T × ℕ)) → option_map (λ item. (length (unescaped (text item.0)), item.1)) removed
-    ≡ option_map len_and_value (option_map (λ item. (unescaped (text item.0), item.1)) removed)
-removed-lengths text None = refl
-removed-lengths text (Some item) = refl
+  -- the entries in a direction
+  pub toward-read : (backward : Bool) (entries : List (K × V)) → toward backward (reading read entries) ≡ reading read (toward backward entries)
+  toward-read true entries = map-reverse (entry_read read) entries
+  toward-read false entries = refl
 
-module _ {A E : Type 0} where
-  pub if-ok : (r : Result A E) (P Q : A → Type 0) → ((x : A) → P x → Q x) → IfOk r P → IfOk r Q
-  if-ok (Ok x) P Q f p = f x p
-  if-ok (Err e) P Q f p = tt
+  pub one-toward : (backward : Bool) (all left : List (K × V)) (x : K × V) → toward backward all ≡ x ∷ toward backward left
+      → toward backward (reading read all) ≡ entry_read read x ∷ toward backward (reading read left)
+  one-toward backward all left x is =
+      toward-read backward all ∙ ap (reading read) is ∙ ap (λ es. entry_read read x ∷ es) (sym (toward-read backward left))
 
-  pub on-ok : (r : Result A E) (P Q : Type 0) → (P → Q) → OnOk r P → OnOk r Q
-  on-ok (Ok x) P Q f p = f p
-  on-ok (Err e) P Q f p = tt
-
-  pub on-err : (r : Result A E) (P Q : Type 0) → (P → Q) → OnErr r P → OnErr r Q
-  on-err (Ok x) P Q f p = tt
-  on-err (Err e) P Q f p = f p
-
--- nothing is made of nothing alone
-pub none_from : {X Y : Type 0} (f : X → Y) (o : Option X) → option_map f o ≡ None → o ≡ None
-none_from f None is = refl
-none_from f (Some x) is = absurd (cc)
+  pub none-toward : (backward : Bool) (all : List (K × V)) → toward backward all ≡ [] → toward backward (reading read all) ≡ []
+  none-toward backward all is = toward-read backward all ∙ ap (reading read) is
 
 -- no more pass a test than there are
 pub filter-fewer : {X : Type 0} (p : X → Bool) (xs passed : List X) → passed ≡ filter p xs → length passed ≤ length xs
 filter-fewer p xs passed same = omega (arith, ap length same, length-filter p xs, count_by-le-length p xs)
+
+-- the choice that is made
+pub where-true : {X : Type 0} (t : Bool) (x y : X) → t ≡ true → x ≡ (if t then x else y)
+where-true true x y is = refl
+where-true false x y is = absurd (cc)
+
+pub where-false : {X : Type 0} (t : Bool) (x y : X) → t ≡ false → y ≡ (if t then x else y)
+where-false true x y is = absurd (cc)
+where-false false x y is = refl
+
+-- what holds anyway holds where nothing is found
+pub none-always : {X : Type 0} (found : Option X) (P : Type 0) → P → IfNone found P
+none-always None P holds = holds
+none-always (Some x) P holds = tt

@@ -1,13 +1,7 @@
 mod BatchLemmas
-mod ByteLemmas
-mod DownLemmas
-mod EscapedLemmas
 mod FoundLemmas
+mod InBytesLemmas
+mod LimitLemmas
 mod LoadLemmas
 mod ManyLemmas
-mod NumberLemmas
-mod PrefixLemmas
-mod PrefixOrderLemmas
-mod ReadLemmas
-mod UnescapedLemmas
 pub mod WriteLemmas

@@ -1,17 +1,15 @@
--- Keys that ascend, and the entries that are made of them.
-use Rattle.std.proofs.Common.{◌≡◌, ◌<◌, ◌≤◌, ◌+◌, ◌-◌, ◌^◌, ◌⊎◌, ◌∙◌, inl, inr, Bool, ℕ, zero, suc, min, List, [], ◌∷◌, ◌++◌, length, take, drop, get_or, true, false, refl, sym, ap, arith}
-use Rattle.std.specs.Prelude.{◌&&◌, leb}
+-- Keys that ascend, and the entries that are put one behind another.
+use Rattle.std.proofs.Common.{◌≡◌, ◌<◌, ◌≤◌, ◌+◌, ◌-◌, ◌∙◌, Bool, ℕ, zero, suc, min, List, [], ◌∷◌, length, take, drop, get_or, true, false, refl, sym, ap, arith, add-one}
+use Rattle.std.specs.Cmp.{IsTotalOrder}
+use Rattle.std.specs.Prelude.{◌&&◌}
 use Rattle.std.specs.List.{zip}
-use Rattle.std.specs.Ordering.{is_lt}
+use Rattle.std.specs.Ordering.{is_lt, ordering_reverse}
 use Rattle.std.specs.declared.cmp.Ordering.{Ordering}
-use Rattle.std.proofs.lemmas.Bool.{false≢true}
-use Rattle.std.proofs.lemmas.Bool.Decides.{leb_tells}
-use Rattle.std.proofs.lemmas.List.{drop_more, map_push, take_more}
-use Rattle.std.proofs.lemmas.List.Elements.{All-more}
+use Rattle.std.specs.declared.cmp.Ordering.TheVariants.{Less, Equal, Greater}
+use Rattle.std.proofs.lemmas.List.{drop_more}
 use Rattle.std.proofs.lemmas.Slice.Zip.{get_or-zip, length-zip}
-use Rattle.art_mapped.specs.Escaped.{escaped_text}
-use Rattle.art_c_maps.specs.Entries.{entries_read, keys_of}
-use Rattle.art_c_maps.specs.Loads.{NoneTooLong, ascend}
+use Rattle.art_c_maps.specs.Entries.{keys_of, put}
+use Rattle.art_c_maps.specs.Loads.{ascend}
 use Rattle.art_c_maps.specs.Many.{cut, cut_from}
 use Rattle.art_c_maps.proofs.ManyLemmas.{length-cut}
 
@@ -43,17 +41,6 @@ module _ {K : Type 0} (order : K → K → Ordering) where
   ascend-not keys i d within so_far is =
       so_far ∙ ascend-more keys i d within ∙ ap (λ below. below && ascend order (drop (i + 1) keys)) is
 
--- ---- keys that are too long
--- one more key is none, since a test says so
-pub none-more : (keys : List (List ℕ)) (i : ℕ) → i < length keys → NoneTooLong (take i keys)
-    → (is_long : Bool) → (2 ^ 32 ≤ length (escaped_text (get_or keys i [])) → is_long ≡ true) → is_long ≡ false → NoneTooLong (take (i + 1) keys)
-none-more keys i within before is_long long_is short_is = by_len (leb_tells (2 ^ 32) (length (escaped_text (get_or keys i []))))
-  where
-    by_len : ((leb (2 ^ 32) (length (escaped_text (get_or keys i []))) ≡ true) × (2 ^ 32 ≤ length (escaped_text (get_or keys i []))))
-        ⊎ ((leb (2 ^ 32) (length (escaped_text (get_or keys i []))) ≡ false) × (length (escaped_text (get_or keys i [])) < 2 ^ 32)) → NoneTooLong (take (i + 1) keys)
-    by_len (inl long) = absurd (false≢true (sym short_is ∙ long_is long.1))
-    by_len (inr short) = All-more (λ (key : List ℕ). length (escaped_text key) < 2 ^ 32) keys i [] within before short.1
-
 -- ---- the keys of pairs
 pub keys-zipped : {K V : Type 0} (keys : List K) (values : List V) (n : ℕ) → n ≡ min (length keys) (length values) → take n keys ≡ keys_of (zip keys values)
 keys-zipped [] values n is = let none : n ≡ 0 = omega (arith, is) in rw none refl
@@ -74,22 +61,44 @@ keys-wanted bytes ends values count wanted is taken =
     ap (cut bytes) taken ∙ cut-take 0 bytes ends count
     ∙ keys-zipped (cut bytes ends) values count (is ∙ ap (λ n. min n (length values)) (sym (length-cut 0 bytes ends)))
 
--- ---- a map without entries
-module _ {T K V : Type 0} (read : List ℕ → K) (text : T → List ℕ) where
-  pub none-held : (entries : List (T × V)) (seen : List (K × V)) → entries_read read text entries ≡ seen → length entries ≡ 0 → seen ≡ []
-  none-held [] seen is none = sym is
-  none-held (entry ∷ entries) seen is none = absurd (omega (arith, none))
+-- ---- entries that are put one behind another
+is-below : (o : Ordering) (rest : Bool) → (is_lt o && rest) ≡ true → (o ≡ Less) × (rest ≡ true)
+is-below Less rest both = (refl, both)
+is-below Equal rest both = absurd (cc)
+is-below Greater rest both = absurd (cc)
 
--- ---- entries that are made
-module _ {T K V : Type 0} (read : List ℕ → K) (text : T → List ℕ) (keys : List K) (values : List V) where
-  -- one more is made
-  pub entries-more : (so_far now : List (T × V)) (i : ℕ) (d : K) (e : V) (entry : T × V) → i < length keys → i < length values
-      → entries_read read text so_far ≡ take i (zip keys values) → now ≡ so_far ++ entry ∷ []
-      → read (text entry.0) ≡ get_or keys i d → entry.1 ≡ get_or values i e → entries_read read text now ≡ take (i + 1) (zip keys values)
-  entries-more so_far now i d e entry in_keys in_values is pushed key value =
+module _ {K : Type 0} (order : K → K → Ordering) where
+  ascend-rest : (key : K) (keys : List K) → ascend order (key ∷ keys) ≡ true → ascend order keys ≡ true
+  ascend-rest key [] ascends = refl
+  ascend-rest key (next ∷ keys) ascends = (is-below (order key next) (ascend order (next ∷ keys)) ascends).1
+
+module _ {K V : Type 0} (order : K → K → Ordering) (total : IsTotalOrder order) where
+  -- the first key is below each later one
+  first-below : (key : K) (pairs : List (K × V)) (i : ℕ) (d : K × V) → ascend order (key ∷ keys_of pairs) ≡ true → i < length pairs → order key (get_or pairs i d).0 ≡ Less
+  first-below key [] i d ascends within = absurd (omega (arith, within))
+  first-below key (pair ∷ pairs) zero d ascends within = (is-below (order key pair.0) (ascend order (pair.0 ∷ keys_of pairs)) ascends).0
+  first-below key (pair ∷ pairs) (suc i) d ascends within =
+      let both = is-below (order key pair.0) (ascend order (pair.0 ∷ keys_of pairs)) ascends in
+      total.trans key pair.0 (get_or pairs i d).0 both.0 (first-below pair.0 pairs i d both.1 (omega (arith, within)))
+
+  -- one more is put behind the first ones
+  behind-put : (pairs : List (K × V)) (i : ℕ) (d : K × V) → ascend order (keys_of pairs) ≡ true → i < length pairs
+      → put order (take i pairs) (get_or pairs i d).0 (get_or pairs i d).1 ≡ take (i + 1) pairs
+  behind-put [] i d ascends within = absurd (omega (arith, within))
+  behind-put (pair ∷ pairs) zero d ascends within = refl
+  behind-put (pair ∷ pairs) (suc i) d ascends within =
+      let key = (get_or pairs i d).0 in
+      let more : order key pair.0 ≡ Greater = total.antisymm key pair.0 ∙ ap ordering_reverse (first-below pair.0 pairs i d ascends (omega (arith, within))) in
+      rw (more, add-one) (ap (λ all. pair ∷ all) (behind-put pairs i d (ascend-rest order pair.0 (keys_of pairs) ascends) (omega (arith, within)) ∙ rw add-one refl))
+
+  pub pair-put : (keys : List K) (values : List V) (i : ℕ) (d : K) (e : V) → ascend order (keys_of (zip keys values)) ≡ true → i < length keys → i < length values
+      → put order (take i (zip keys values)) (get_or keys i d) (get_or values i e) ≡ take (i + 1) (zip keys values)
+  pair-put keys values i d e ascends in_keys in_values =
       let pairs = zip keys values in
       let within : i < length pairs = omega (arith, length-zip keys values, in_keys, in_values) in
-      let pair : (read (text entry.0), entry.1) ≡ get_or pairs i (d, e) =
-      ap (λ k. (k, entry.1)) key ∙ ap (λ v. (get_or keys i d, v)) value ∙ sym (get_or-zip keys values i (d, e) in_keys in_values) in
-      ap (entries_read read text) pushed ∙ map_push (λ (it : T × V). (read (text it.0), it.1)) so_far entry
-      ∙ ap (λ all. all ++ (read (text entry.0), entry.1) ∷ []) is ∙ ap (λ it. take i pairs ++ it ∷ []) pair ∙ sym (take_more pairs i (d, e) within)
+      ap (λ (pair : K × V). put order (take i pairs) pair.0 pair.1) (sym (get_or-zip keys values i (d, e) in_keys in_values)) ∙ behind-put pairs i (d, e) ascends within
+
+-- a list without items
+pub none-held : {X : Type 0} (xs : List X) → length xs ≡ 0 → xs ≡ []
+none-held [] none = refl
+none-held (x ∷ xs) none = absurd (omega (arith, none))

@@ -1,7 +1,7 @@
 -- Which entries a batch holds, and how its buffers begin.
-use Rattle.std.specs.Prelude.{ℕ, zero, suc, ◌+◌, ◌-◌, Bool, List, [], ◌∷◌, length, reverse, take, Option, None, nat_eq, nat_le, if◌then◌else◌}
+use Rattle.std.specs.Prelude.{ℕ, zero, suc, ◌+◌, ◌-◌, Bool, List, [], ◌∷◌, length, reverse, take, Option, None, nat_le, if◌then◌else◌}
 use Rattle.std.specs.Option.{option_map}
-use Rattle.std.specs.List.{flat_map, starts_with, take_while}
+use Rattle.std.specs.List.{flat_map}
 use Rattle.art_bytes.specs.Text.{text_order}
 use Rattle.art_c_maps.specs.Entries.{entries_from, entries_to, entries_with_prefix}
 
@@ -39,10 +39,6 @@ ends_after start (entry ∷ entries) = (start + length entry.0) ∷ ends_after (
 
 abbrev pub ends_of : List (List ℕ × ℕ) → List ℕ
 ends_of entries = ends_after 0 entries
-
--- the first entries, as far as their keys begin with these bytes
-abbrev pub begun : List ℕ → List (List ℕ × ℕ) → List (List ℕ × ℕ)
-begun prefix entries = take_while (λ entry. starts_with nat_eq entry.0 prefix) entries
 
 -- the entries in the order in which they are written
 abbrev pub toward : {X : Type 0} → Bool → List X → List X

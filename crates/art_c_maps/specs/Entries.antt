@@ -1,15 +1,16 @@
 -- A map as the list of its entries, ascending by key: what calls read of it, and what they leave.
-use Rattle.std.specs.Prelude.{ℕ, ◌-◌, Bool, not, List, [], ◌∷◌, ◌++◌, drop, length, filter, map, reverse, take, Option, Some, None, nat_eq, slice_get, if◌then◌else◌}
+use Rattle.std.specs.Prelude.{ℕ, ◌-◌, Bool, List, ◌++◌, drop, length, filter, map, reverse, take, Option, Vec, nat_eq, slice_get, if◌then◌else◌}
+use Rattle.std.specs.BTreeMap.{insert_entry, is_at}
 use Rattle.std.specs.List.{fold, starts_with}
-use Rattle.std.specs.Ordering.{is_eq, is_ge, is_gt, is_le, is_lt, match_ordering}
+use Rattle.std.specs.Map.{lookup, remove_entry}
+use Rattle.std.specs.Ordering.{is_ge, is_gt, is_le, is_lt}
+use Rattle.std.specs.Vec.{vec_items}
 use Rattle.std.specs.declared.cmp.Ordering.{Ordering}
 
 module _ {K V : Type 0} (order : K → K → Ordering) where
-  -- the entries with this one before the first of a greater key, or in place of the one with its key
+  -- the entries with this one before the first of a greater key, or with this value for the key
   abbrev pub put : List (K × V) → K → V → List (K × V)
-  put [] key value = (key, value) ∷ []
-  put (other ∷ entries) key value =
-      match_ordering (order key other.0) ((key, value) ∷ other ∷ entries) ((key, value) ∷ entries) (other ∷ put entries key value)
+  put entries key value = insert_entry order entries key value
 
   -- the entries with each of the others put in turn
   abbrev pub put_each : List (K × V) → List (K × V) → List (K × V)
@@ -17,16 +18,15 @@ module _ {K V : Type 0} (order : K → K → Ordering) where
 
   -- the value of the entry with this key
   abbrev pub value_of : List (K × V) → K → Option V
-  value_of [] key = None
-  value_of (entry ∷ entries) key = if is_eq (order entry.0 key) then Some entry.1 else value_of entries key
+  value_of entries key = lookup (is_at (order key)) entries
 
   -- the entries without the one with this key
   abbrev pub without : List (K × V) → K → List (K × V)
-  without entries key = filter (λ entry. not (is_eq (order entry.0 key))) entries
+  without entries key = remove_entry (is_at (order key)) entries
 
   -- the entries at this key or after it; only after it where it is not included
   abbrev pub entries_from : Bool → K → List (K × V) → List (K × V)
-  entries_from inclusive key entries = filter (λ entry. if inclusive then is_ge (order entry.0 key) else is_gt (order entry.0 key)) entries
+  entries_from inclusive key entries = filter (λ entry. if inclusive then is_le (order key entry.0) else is_lt (order key entry.0)) entries
 
   -- the first of these, so many at most
   abbrev pub next_entries : ℕ → Bool → K → List (K × V) → List (K × V)
@@ -34,7 +34,7 @@ module _ {K V : Type 0} (order : K → K → Ordering) where
 
   -- the entries at this key or before it; only before it where it is not included
   abbrev pub entries_to : Bool → K → List (K × V) → List (K × V)
-  entries_to inclusive key entries = filter (λ entry. if inclusive then is_le (order entry.0 key) else is_lt (order entry.0 key)) entries
+  entries_to inclusive key entries = filter (λ entry. if inclusive then is_ge (order key entry.0) else is_gt (order key entry.0)) entries
 
   -- the last of these, so many at most, from the last one down
   abbrev pub previous_entries : ℕ → Bool → K → List (K × V) → List (K × V)
@@ -62,6 +62,6 @@ values_of entries = map (λ entry. entry.1) entries
 abbrev pub begun_with : {X : Type 0} → List X → List X → List X
 begun_with items buffer = items ++ drop (length items) buffer
 
--- the entries with each key read from its text
-abbrev pub entries_read : {T K V : Type 0} → (List ℕ → K) → (T → List ℕ) → List (T × V) → List (K × V)
-entries_read read text entries = map (λ entry. (read (text entry.0), entry.1)) entries
+-- the entries with the bytes of each key
+abbrev pub entries_in_bytes : {A V : Type 0} → List (Vec ℕ A × V) → List (List ℕ × V)
+entries_in_bytes entries = map (λ entry. (vec_items entry.0, entry.1)) entries

@@ -1,7 +1,7 @@
 pub mod Batch
+pub mod Buffers
 pub mod Entries
+pub mod Limits
 pub mod Loads
 pub mod Many
 pub mod Refusals
-pub mod Sought
-pub mod Unescaped

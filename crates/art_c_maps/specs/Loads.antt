@@ -1,9 +1,9 @@
 -- Entries that are loaded into a map without entries, and why they are refused.
-use Rattle.std.specs.Prelude.{◌≡◌, ◌≢◌, ◌<◌, ◌≤◌, ◌^◌, ◌&&◌, ℕ, Bool, true, false, List, [], ◌∷◌, All, get_or, length}
+use Rattle.std.specs.Prelude.{◌≡◌, ◌≢◌, ◌<◌, ◌&&◌, ℕ, Bool, true, false, List, [], ◌∷◌, All, get_or, length}
 use Rattle.std.specs.Ordering.{is_lt, nat_cmp}
 use Rattle.std.specs.declared.cmp.Ordering.{Ordering}
 use Rattle.art_bytes.specs.Text.{text_order}
-use Rattle.art_mapped.specs.Escaped.{escaped_text}
+use Rattle.art_c_maps.specs.Refusals.{IsNotTooLong, IsTooLong}
 use Rattle.art_c_maps.specs.declared.refusal.LoadRefusal.{LoadRefusal}
 use Rattle.art_c_maps.specs.declared.refusal.LoadRefusal.TheVariants.{NotEmpty, NotAscending, KeyTooLong, OutOfMemory}
 
@@ -13,13 +13,13 @@ ascend order [] = true
 ascend order (key ∷ []) = true
 ascend order (key ∷ next ∷ keys) = is_lt (order key next) && ascend order (next ∷ keys)
 
--- some of these keys has 2^32 bytes or more, each zero twice and the end included
+-- some of these keys is too long
 abbrev pub SomeTooLong : List (List ℕ) → Type 0
-SomeTooLong keys = (i : ℕ) × (i < length keys) × (2 ^ 32 ≤ length (escaped_text (get_or keys i [])))
+SomeTooLong keys = (i : ℕ) × (i < length keys) × IsTooLong (get_or keys i [])
 
--- none of them has
+-- none of them is
 abbrev pub NoneTooLong : List (List ℕ) → Type 0
-NoneTooLong keys = All (λ key. length (escaped_text key) < 2 ^ 32) keys
+NoneTooLong keys = All IsNotTooLong keys
 
 -- a map with these entries takes entries with these keys, where it gets memory for them
 abbrev pub TakesNumbers : List (ℕ × ℕ) → List ℕ → Type 0

@@ -4,15 +4,13 @@
 #![tactic(auto)]
 
 mod batch;
+mod buffers;
 mod bytes_map;
+mod limit;
 mod loads;
 mod many;
-mod nearest;
 mod number_map;
 mod refusal;
-mod sought;
-mod too_long;
-mod unescaped;
 
 pub use bytes_map::BytesMap;
 pub use number_map::NumberMap;

@@ -1,19 +1,15 @@
-//! Entries that are loaded: whether their keys may be, and the entries of a map that are made of them.
-ghost use Rattle.std.specs.Prelude.{◌≡◌, false, IfOk, IsTrue};
-ghost use Rattle.std.specs.Int.{from_be_bytes, w64};
+//! Entries that are loaded: whether their keys may be, and the map that has them.
+ghost use Rattle.std.specs.Prelude.{◌≡◌, false, true, IfOk, IsTrue};
 ghost use Rattle.std.specs.List.{zip};
 ghost use Rattle.std.specs.Ordering.{nat_cmp};
 ghost use Rattle.art_bytes.specs.Text.{text_order};
-ghost use Rattle.art_mapped.specs.Mapped.{mapped_text};
-ghost use Rattle.art_c_maps.specs.Entries.{entries_read};
+ghost use Rattle.art_c_maps.specs.Entries.{entries_in_bytes, keys_of};
 ghost use Rattle.art_c_maps.specs.Loads.{NoneTooLong, SomeTooLong, ascend};
 ghost use Rattle.art_c_maps.specs.Many.{cut};
-ghost use Rattle.art_c_maps.specs.Unescaped.{unescaped};
 
-use crate::bytes_map::Word;
 use crate::many::bytes_between;
-use crate::number_map::Number;
-use crate::too_long::is_too_long;
+use crate::refusal::is_too_long;
+use art_map::Map;
 use std::alloc::{AllocError, Global};
 
 /// Whether each number is below the next one.
@@ -49,7 +45,7 @@ pub(crate) fn keys_ascend(keys: &[u8], ends: &[usize]) -> bool
     true
 }
 
-/// Whether some key is too long for a map. Looks at the bytes of a key only where their number does not tell.
+/// Whether some key is too long for a map.
 pub(crate) fn some_too_long(keys: &[u8], ends: &[usize]) -> bool
     ensures some { IsTrue result → SomeTooLong (cut keys.now ends.now) }
     ensures none { result ≡ false → NoneTooLong (cut keys.now ends.now) }
@@ -65,59 +61,46 @@ pub(crate) fn some_too_long(keys: &[u8], ends: &[usize]) -> bool
     false
 }
 
-// The entry of a number.
-fn number_entry(key: u64, value: u64) -> (Number, u64)
-    ensures key { from_be_bytes w64 (mapped_text result.0) ≡ key }
-    ensures value { result.1 ≡ value }
-{
-    (Number::of(key), value)
-}
-
-// The entry of a key of bytes.
-fn word_entry(alloc: Global, key: &[u8], value: u64) -> Result<(Word, u64), AllocError>
-    ensures key { IfOk result (λ entry. unescaped (mapped_text entry.0) ≡ key.now) }
-    ensures value { IfOk result (λ entry. entry.1 ≡ value) }
-{
-    let bytes = Vec::from_slice(alloc, key)?;
-    let word = Word::new(alloc, bytes)?;
-    Ok((word, value))
-}
-
-/// The entries of numbers, as many as the shorter of both slices holds.
-pub(crate) fn number_entries(
+/// The map of these entries, whose keys ascend: as many as the shorter of both slices holds.
+pub(crate) fn map_of_numbers(
     alloc: Global,
     keys: &[u64],
     values: &[u64],
-) -> Result<Vec<(Number, u64)>, AllocError>
-    ensures { IfOk result (λ entries. entries_read (from_be_bytes w64) mapped_text entries.items
-        ≡ zip keys.now values.now) }
+) -> Result<Map<u64, u64>, AllocError>
+    requires { ascend nat_cmp (keys_of (zip keys.now values.now)) ≡ true }
+    ensures { IfOk result (λ map. map ≡ zip keys.now values.now) }
 {
     let count = keys.len().min(values.len());
-    let mut entries = Vec::with_capacity(alloc, count)?;
+    let mut loaded = Map::new(alloc);
     for index in 0..count {
-        entries.push(number_entry(keys[index], values[index]))?;
+        let Ok(_) = loaded.insert(keys[index], values[index]) else {
+            return Err(AllocError);
+        };
     }
-    Ok(entries)
+    Ok(loaded)
 }
 
-/// The entries of keys of bytes, as many as the shorter of `ends` and `values` holds.
-pub(crate) fn word_entries(
+/// The map of these entries, whose keys ascend, and none of which is too long: as many as the shorter of `ends`
+/// and `values` holds.
+pub(crate) fn map_of_bytes(
     alloc: Global,
     keys: &[u8],
     ends: &[usize],
     values: &[u64],
-) -> Result<Vec<(Word, u64)>, AllocError>
-    ensures { IfOk result (λ entries. entries_read unescaped mapped_text entries.items
-        ≡ zip (cut keys.now ends.now) values.now) }
+) -> Result<Map<Vec<u8>, u64>, AllocError>
+    requires { ascend text_order (keys_of (zip (cut keys.now ends.now) values.now)) ≡ true }
+    ensures { IfOk result (λ map. entries_in_bytes map ≡ zip (cut keys.now ends.now) values.now) }
 {
     let count = ends.len().min(values.len());
-    let mut entries = Vec::with_capacity(alloc, count)?;
+    let mut loaded = Map::new(alloc);
     let mut start = 0;
     for index in 0..count {
         let end = ends[index];
-        let entry = word_entry(alloc, bytes_between(keys, start, end), values[index])?;
-        entries.push(entry)?;
+        let key = Vec::from_slice(alloc, bytes_between(keys, start, end))?;
+        let Ok(_) = loaded.insert(key, values[index]) else {
+            return Err(AllocError);
+        };
         start = end;
     }
-    Ok(entries)
+    Ok(loaded)
 }

@@ -1,154 +1,128 @@
 //! Maps by 64-bit numbers.
-ghost use Rattle.std.specs.Prelude.{◌≡◌, ◌≢◌, ◌-◌, ◌<◌, [], drop, get_or, length, min, reverse, take, IfErr, IfOk, None, OnErr, OnOk};
-ghost use Rattle.std.specs.Int.{from_be_bytes, w64};
+ghost use Rattle.std.specs.Prelude.{◌≡◌, ◌-◌, ◌<◌, [], drop, get_or, length, min, take, IfErr, IfOk, None, OnErr, OnOk, not, if◌then◌else◌};
+ghost use Rattle.std.specs.BTreeMap.Range.{is_from_start, is_past_end};
 ghost use Rattle.std.specs.List.{zip};
 ghost use Rattle.std.specs.Option.{option_map};
-ghost use Rattle.std.specs.Ordering.{nat_cmp};
-ghost use Rattle.art_mapped.specs.Mapped.{mapped_text};
-ghost use Rattle.art_c_maps.specs.Entries.{begun_with, entries_from, entries_read, entries_to, first_of, keys_of, last_of, next_entries, previous_entries, put, put_each, value_of, values_of, without};
+ghost use Rattle.std.specs.Ordering.{is_ge, is_gt, is_le, is_lt, nat_cmp};
+ghost use Rattle.art_c_maps.specs.Batch.{toward};
+ghost use Rattle.art_c_maps.specs.Entries.{begun_with, entries_from, entries_to, first_of, keys_of, last_of, next_entries, previous_entries, put, put_each, value_of, values_of, without};
 ghost use Rattle.art_c_maps.specs.Loads.{IsNumberLoadRefused, TakesNumbers};
 ghost use Rattle.art_c_maps.specs.Many.{are_found, found_values};
 
-use crate::loads::{number_entries, numbers_ascend};
-use crate::many::found_beside;
-use crate::nearest::{end_at, first_from, last_to, start_at, value_alone};
+use crate::loads::{map_of_numbers, numbers_ascend};
+use crate::many::{found_beside, next_entry};
 use crate::refusal::LoadRefusal;
-use art_tree::{Mapped, ToUBE};
-use leaf_map::{ArtMap, Iter};
+use art_map::{Iter, Map};
 use std::alloc::{AllocError, Global};
 use std::marker::Model;
 use std::ops::Bound;
 
-/// A key, under the mapping that no caller sees.
-pub(crate) type Number = Mapped<ToUBE, u64>;
-
 /// An ordered map from 64-bit numbers to 64-bit values: the list of its entries, in ascending order of
-/// their keys. No call has a condition.
+/// their keys. No call has a condition. A call takes memory only where it says so.
 #[derive(Drop)]
 pub struct NumberMap {
-    entries: ArtMap<Number, u64, 16>,
+    entries: Map<u64, u64>,
 }
 
 impl Model for NumberMap {
     ghost use Rattle.std.specs.Prelude.{List, ℕ};
-    ghost use Rattle.std.specs.Int.{from_be_bytes, w64};
-    ghost use Rattle.art_mapped.specs.Mapped.{mapped_text};
-    ghost use Rattle.art_c_maps.specs.Entries.{entries_read};
 
     ghost Value = { List (ℕ × ℕ) };
 
-    ghost view = { λ map. entries_read (from_be_bytes w64) mapped_text map.entries };
+    ghost view = { λ map. map.entries };
 }
 
 // Key and value of an entry that was found.
-fn entry_of(found: Option<(&Number, &u64)>) -> Option<(u64, u64)>
-    ensures { result ≡ option_map
-        (λ (key, value). (from_be_bytes w64 (mapped_text key.now), value.now)) found.entry }
+fn entry_of(found: Option<(&u64, &u64)>) -> Option<(u64, u64)>
+    ensures { result ≡ option_map (λ (key, value). (key.now, value.now)) found.entry }
 {
     let (key, value) = found?;
-    Some((key.value(), *value))
+    Some((*key, *value))
 }
 
-// Key and value of an entry that was removed.
-fn removed_entry(removed: Option<(Number, u64)>) -> Option<(u64, u64)>
-    ensures { result ≡ option_map
-        (λ (key, value). (from_be_bytes w64 (mapped_text key), value)) removed }
-{
-    let (key, value) = removed?;
-    Some((key.value(), value))
-}
-
-// Writes the first of these entries, as many as the shorter of both slices holds. Returns how many.
+// Writes the first of these entries, or the last ones where it goes backward, as many as the shorter of both
+// slices holds. Returns how many.
 fn write_entries(
-    mut entries: Iter<'_, Number, u64, 16>,
+    mut entries: Iter<'_, u64, u64>,
+    backward: bool,
     keys: &mut [u64],
     values: &mut [u64],
 ) -> usize
-    ensures count { result ≡ length (take (min (length keys.old) (length values.old))
-        (entries_read (from_be_bytes w64) mapped_text entries.entry)) }
-    ensures keys { keys.new ≡ begun_with (keys_of (take (min (length keys.old) (length values.old))
-        (entries_read (from_be_bytes w64) mapped_text entries.entry))) keys.old }
-    ensures values { values.new ≡ begun_with (values_of (take (min (length keys.old) (length values.old))
-        (entries_read (from_be_bytes w64) mapped_text entries.entry))) values.old }
+    ensures count { result ≡ length
+        (take (min (length keys.old) (length values.old)) (toward backward entries.entry)) }
+    ensures keys { keys.new ≡ begun_with (keys_of
+        (take (min (length keys.old) (length values.old)) (toward backward entries.entry))) keys.old }
+    ensures values { values.new ≡ begun_with (values_of
+        (take (min (length keys.old) (length values.old)) (toward backward entries.entry))) values.old }
 {
     let room = keys.len().min(values.len());
     for index in 0..room {
-        match entry_of(entries.next()) {
-            Some((key, value)) => {
-                keys[index] = key;
-                values[index] = value;
-            }
-            None => return index,
-        }
+        let Some((key, value)) = next_entry(&mut entries, backward) else {
+            return index;
+        };
+        keys[index] = *key;
+        values[index] = *value;
     }
     room
 }
 
-// Writes the last of these entries, from the last one down, as many as the shorter of both slices holds.
-// Returns how many.
-fn write_down(mut entries: Iter<'_, Number, u64, 16>, keys: &mut [u64], values: &mut [u64]) -> usize
-    ensures count { result ≡ length (take (min (length keys.old) (length values.old))
-        (reverse (entries_read (from_be_bytes w64) mapped_text entries.entry))) }
-    ensures keys { keys.new ≡ begun_with (keys_of (take (min (length keys.old) (length values.old))
-        (reverse (entries_read (from_be_bytes w64) mapped_text entries.entry)))) keys.old }
-    ensures values { values.new ≡ begun_with (values_of (take (min (length keys.old) (length values.old))
-        (reverse (entries_read (from_be_bytes w64) mapped_text entries.entry)))) values.old }
+// A bound at a key: of a start or an end within which the key itself is where it is included.
+fn bound_at(key: u64, inclusive: bool) -> Bound<u64>
+    ensures start { (x : _) → is_from_start nat_cmp result x
+        ≡ (if inclusive then is_le (nat_cmp key x) else is_lt (nat_cmp key x)) }
+    ensures end { (x : _) → not (is_past_end nat_cmp result x)
+        ≡ (if inclusive then is_ge (nat_cmp key x) else is_gt (nat_cmp key x)) }
 {
-    let room = keys.len().min(values.len());
-    for index in 0..room {
-        match entry_of(entries.next_back()) {
-            Some((key, value)) => {
-                keys[index] = key;
-                values[index] = value;
-            }
-            None => return index,
-        }
+    if inclusive {
+        Bound::Included(key)
+    } else {
+        Bound::Excluded(key)
     }
-    room
 }
 
 impl NumberMap {
+    // The entries at a key or after it, only after it where it is not included.
+    fn from(&self, key: u64, inclusive: bool) -> Iter<'_, u64, u64>
+        ensures { result ≡ entries_from nat_cmp inclusive key self.now }
+    {
+        self.entries
+            .range((bound_at(key, inclusive), Bound::Unbounded))
+    }
+
+    // The entries at a key or before it, only before it where it is not included.
+    fn up_to(&self, key: u64, inclusive: bool) -> Iter<'_, u64, u64>
+        ensures { result ≡ entries_to nat_cmp inclusive key self.now }
+    {
+        self.entries
+            .range((Bound::Unbounded, bound_at(key, inclusive)))
+    }
+
     /// A map with no entries. Takes no memory.
     pub fn new(alloc: Global) -> NumberMap
         ensures { result ≡ [] }
     {
         NumberMap {
-            entries: ArtMap::new(alloc),
+            entries: Map::new(alloc),
         }
     }
 
-    /// The number of entries. Takes constant time and no memory.
+    /// The number of entries. Takes constant time.
     pub fn len(&self) -> usize
         ensures { result ≡ length self.now }
     {
         self.entries.len()
     }
 
-    /// Removes all entries. Keeps the memory.
+    /// Removes all entries.
     pub fn clear(&mut self)
         ensures { self.new ≡ [] }
     {
         self.entries.clear();
     }
 
-    /// Reserves memory for `additional` more entries. The entries are unchanged, also after a failure.
-    pub fn reserve(&mut self, additional: usize) -> Result<(), AllocError>
-        ensures same_entries { self.new ≡ self.old }
-    {
-        self.entries.reserve(additional)
-    }
-
-    /// Puts the entries into memory in the order of their keys, with room for just them. All memory is
-    /// taken before an entry moves: the entries are unchanged, also after a failure.
-    pub fn compact(&mut self) -> Result<(), AllocError>
-        ensures same_entries { self.new ≡ self.old }
-    {
-        self.entries.compact()
-    }
-
     /// Sets the value of a key, and returns the value that it had.
     ///
-    /// Error: [`AllocError`] on an allocation failure, only where the key is not there. The entries are
+    /// Takes memory for a key that is not there. Error: [`AllocError`] where that is refused. The entries are
     /// unchanged.
     pub fn insert(&mut self, key: u64, value: u64) -> Result<Option<u64>, AllocError>
         ensures replaced { IfOk result (λ before. before ≡ value_of nat_cmp self.old key) }
@@ -156,94 +130,75 @@ impl NumberMap {
         ensures no_entry { OnErr result (value_of nat_cmp self.old key ≡ None) }
         ensures same_entries { OnErr result (self.new ≡ self.old) }
     {
-        self.entries.entries_ascend();
-        match self.entries.insert(Number::of(key), value) {
-            Ok(before) => Ok(value_alone(before)),
+        match self.entries.insert(key, value) {
+            Ok(before) => Ok(before),
             Err(_) => Err(AllocError),
         }
     }
 
-    /// The value of a key, or None where there is none. Takes no memory.
+    /// The value of a key, or None where there is none.
     pub fn get(&self, key: u64) -> Option<u64>
         ensures { result ≡ value_of nat_cmp self.now key }
     {
-        self.entries.entries_ascend();
-        self.entries.get(&Number::of(key)).copied()
+        self.entries.get(&key).copied()
     }
 
-    /// Removes a key, and returns the value that it had.
-    ///
-    /// Error: [`AllocError`] on an allocation failure, only where the key is there. The entries are
-    /// unchanged.
-    pub fn remove(&mut self, key: u64) -> Result<Option<u64>, AllocError>
-        ensures removed { IfOk result (λ value. value ≡ value_of nat_cmp self.old key) }
-        ensures entries { OnOk result (self.new ≡ without nat_cmp self.old key) }
-        ensures refused { OnErr result (value_of nat_cmp self.old key ≢ None) }
-        ensures same_entries { OnErr result (self.new ≡ self.old) }
+    /// Removes a key, and returns the value that it had. It is never refused.
+    pub fn remove(&mut self, key: u64) -> Option<u64>
+        ensures removed { result ≡ value_of nat_cmp self.old key }
+        ensures entries { self.new ≡ without nat_cmp self.old key }
     {
-        self.entries.entries_ascend();
-        self.entries.remove(&Number::of(key))
+        self.entries.remove(&key)
     }
 
-    /// The first entry at a key or after it, only after it where it is not included. Takes no memory.
+    /// The first entry at a key or after it, only after it where it is not included.
     pub fn next(&self, from: u64, inclusive: bool) -> Option<(u64, u64)>
         ensures { result ≡ first_of (entries_from nat_cmp inclusive from self.now) }
     {
-        self.entries.entries_ascend();
-        let from = Number::of(from);
-        entry_of(first_from(&self.entries, &from, inclusive))
+        entry_of(self.from(from, inclusive).next())
     }
 
-    /// The last entry at a key or before it, only before it where it is not included. Takes no memory.
+    /// The last entry at a key or before it, only before it where it is not included.
     pub fn previous(&self, from: u64, inclusive: bool) -> Option<(u64, u64)>
         ensures { result ≡ last_of (entries_to nat_cmp inclusive from self.now) }
     {
-        self.entries.entries_ascend();
-        let from = Number::of(from);
-        entry_of(last_to(&self.entries, &from, inclusive))
+        entry_of(self.up_to(from, inclusive).next_back())
     }
 
-    /// The entry with the least key, or None where there is no entry. Takes no memory.
+    /// The entry with the least key, or None where there is no entry.
     pub fn first(&self) -> Option<(u64, u64)>
         ensures { result ≡ first_of self.now }
     {
-        entry_of(self.entries.first())
+        entry_of(self.entries.first_key_value())
     }
 
-    /// The entry with the greatest key, or None where there is no entry. Takes no memory.
+    /// The entry with the greatest key, or None where there is no entry.
     pub fn last(&self) -> Option<(u64, u64)>
         ensures { result ≡ last_of self.now }
     {
-        entry_of(self.entries.last())
-    }
-    /// Removes the entry with the least key and returns it, or None where there is no entry.
-    ///
-    /// Error: [`AllocError`] on an allocation failure, only where there is an entry. The entries are
-    /// unchanged.
-    pub fn pop_first(&mut self) -> Result<Option<(u64, u64)>, AllocError>
-        ensures removed { IfOk result (λ removed. removed ≡ first_of self.old) }
-        ensures entries { OnOk result (self.new ≡ drop 1 self.old) }
-        ensures refused { OnErr result (self.old ≢ []) }
-        ensures same_entries { OnErr result (self.new ≡ self.old) }
-    {
-        let removed = self.entries.pop_first()?;
-        Ok(removed_entry(removed))
+        entry_of(self.entries.last_key_value())
     }
 
-    /// Removes the entry with the greatest key and returns it, or None where there is no entry. Fails as
-    /// [`pop_first`](Self::pop_first).
-    pub fn pop_last(&mut self) -> Result<Option<(u64, u64)>, AllocError>
-        ensures removed { IfOk result (λ removed. removed ≡ last_of self.old) }
-        ensures entries { OnOk result (self.new ≡ take (length self.old - 1) self.old) }
-        ensures refused { OnErr result (self.old ≢ []) }
-        ensures same_entries { OnErr result (self.new ≡ self.old) }
+    /// Removes the entry with the least key and returns it, or None where there is no entry. It is never
+    /// refused.
+    pub fn pop_first(&mut self) -> Option<(u64, u64)>
+        ensures removed { result ≡ first_of self.old }
+        ensures entries { self.new ≡ drop 1 self.old }
     {
-        let removed = self.entries.pop_last()?;
-        Ok(removed_entry(removed))
+        self.entries.pop_first()
+    }
+
+    /// Removes the entry with the greatest key and returns it, or None where there is no entry. It is never
+    /// refused.
+    pub fn pop_last(&mut self) -> Option<(u64, u64)>
+        ensures removed { result ≡ last_of self.old }
+        ensures entries { self.new ≡ take (length self.old - 1) self.old }
+    {
+        self.entries.pop_last()
     }
 
     /// Writes the first entries at a key or after it, only after it where it is not included: as many as
-    /// the shorter of both slices holds. Returns how many. Takes no memory.
+    /// the shorter of both slices holds. Returns how many.
     pub fn next_many(
         &self,
         from: u64,
@@ -258,15 +213,11 @@ impl NumberMap {
         ensures values { values.new ≡ begun_with (values_of (next_entries nat_cmp
             (min (length keys.old) (length values.old)) inclusive from self.now)) values.old }
     {
-        self.entries.entries_ascend();
-        let from = Number::of(from);
-        let start = start_at(&from, inclusive);
-        let entries = self.entries.range(start, Bound::Unbounded);
-        write_entries(entries, keys, values)
+        write_entries(self.from(from, inclusive), false, keys, values)
     }
 
     /// Writes the last entries at a key or before it, only before it where it is not included, from the last
-    /// one down: as many as the shorter of both slices holds. Returns how many. Takes no memory.
+    /// one down: as many as the shorter of both slices holds. Returns how many.
     pub fn previous_many(
         &self,
         from: u64,
@@ -281,16 +232,12 @@ impl NumberMap {
         ensures values { values.new ≡ begun_with (values_of (previous_entries nat_cmp
             (min (length keys.old) (length values.old)) inclusive from self.now)) values.old }
     {
-        self.entries.entries_ascend();
-        let from = Number::of(from);
-        let end = end_at(&from, inclusive);
-        let entries = self.entries.range(Bound::Unbounded, end);
-        write_down(entries, keys, values)
+        write_entries(self.up_to(from, inclusive), true, keys, values)
     }
 
     /// Looks up each of these keys, as [`get`](Self::get) does: `found` has a 1 for each that has an entry, and
     /// a 0 for each other, and `values` the value of each that has one. As many as the shortest of the slices
-    /// holds: returns how many. Takes no memory.
+    /// holds: returns how many.
     pub fn get_many(&self, keys: &[u64], found: &mut [u8], values: &mut [u64]) -> usize
         ensures count { result ≡ min (length keys.now) (min (length found.old) (length values.old)) }
         ensures found { found.new ≡ begun_with (are_found (value_of nat_cmp self.now)
@@ -326,8 +273,7 @@ impl NumberMap {
     }
 
     /// Puts these entries, whose keys must ascend, into a map that has none: all of them, as many as the
-    /// shorter of both slices holds, or none. They then lie in memory in the order of their keys, as after
-    /// [`compact`](Self::compact), and what memory the map has kept is freed. Takes time linear in their number.
+    /// shorter of both slices holds, or none. They fill their pages. Costs as much as the inserts.
     ///
     /// The keys are looked at before memory is taken. After a refusal the entries are unchanged.
     pub fn load(&mut self, alloc: Global, keys: &[u64], values: &[u64]) -> Result<(), LoadRefusal>
@@ -337,7 +283,7 @@ impl NumberMap {
             (IsNumberLoadRefused self.old (keys_of (zip keys.now values.now))) }
         ensures same_entries { OnErr result (self.new ≡ self.old) }
     {
-        let is_empty = self.entries.len() == 0;
+        let is_empty = self.len() == 0;
         if !is_empty {
             return Err(LoadRefusal::NotEmpty);
         }
@@ -346,11 +292,7 @@ impl NumberMap {
         if !numbers_ascend(wanted) {
             return Err(LoadRefusal::NotAscending);
         }
-        let Ok(entries) = number_entries(alloc, keys, values) else {
-            return Err(LoadRefusal::OutOfMemory);
-        };
-        // The keys are those of a load, so only memory is refused.
-        match ArtMap::from_ascending(alloc, entries) {
+        match map_of_numbers(alloc, keys, values) {
             Ok(loaded) => {
                 self.entries = loaded;
                 Ok(())

@@ -1,2 +1,3 @@
 mod AddressLemmas
+mod AvailableLemmas
 mod ManyLemmas

@@ -3,12 +3,17 @@ use Rattle.std.specs.Prelude.{◌≡◌, ◌⊎◌, ℕ, Bool, List, map, Option
 use Rattle.art_routes.specs.declared.address.Address.{Address}
 use Rattle.art_routes.specs.Networks.{Block, network_around}
 use Rattle.art_routes.specs.Tables.{IsLongest, NoneContains, at_or_after, behind}
-use Rattle.art_c_maps.specs.Unescaped.{written}
+use Rattle.art_routes.specs.UpTo.{ahead, at_or_before}
+use Rattle.art_c_maps.specs.Buffers.{written}
 use Rattle.art_c_routes.specs.Addresses.{address_bytes, byte_count}
 
 -- the routes at a network or after it; only after it where it is not included
 abbrev pub routes_from : Bool → Block → List (Block × ℕ) → List (Block × ℕ)
 routes_from inclusive network routes = if inclusive then at_or_after network routes else behind network routes
+
+-- the routes at a network or before it; only before it where it is not included
+abbrev pub routes_to : Bool → Block → List (Block × ℕ) → List (Block × ℕ)
+routes_to inclusive network routes = if inclusive then at_or_before network routes else ahead network routes
 
 -- how many bytes the address of a route has, its length and its value
 abbrev pub found_parts : Block × ℕ → ℕ × ℕ × ℕ

@@ -1,3 +1,5 @@
 pub mod Addresses
 pub mod Found
 pub mod Refusals
+pub mod Available
+pub mod Differing

@@ -1,7 +1,7 @@
 //! Addresses as C has them: four bytes or sixteen, the highest first.
 ghost use Rattle.std.specs.Prelude.{◌≡◌, ◌*◌, ◌/◌, ◌<◌, true, false, IfNone, IfSome, drop, length, take};
 ghost use Rattle.art_routes.specs.Networks.{address_of};
-ghost use Rattle.art_c_maps.specs.Unescaped.{written};
+ghost use Rattle.art_c_maps.specs.Buffers.{written};
 ghost use Rattle.art_c_routes.specs.Addresses.{address_bytes, address_in, byte_count, is_address, is_network, is_width, network_in};
 
 use art_routes::Network;

@@ -4,8 +4,12 @@
 #![tactic(auto)]
 
 mod address;
+mod available;
+mod backwards;
+mod differing;
 mod number_routes;
 mod refusal;
 
+pub use differing::Difference;
 pub use number_routes::{NO_ROUTE, NumberRoutes};
 pub use refusal::Refusal;

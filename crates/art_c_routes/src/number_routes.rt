@@ -1,5 +1,5 @@
 //! Route tables with 64-bit values.
-ghost use Rattle.std.specs.Prelude.{◌≡◌, ◌≢◌, ◌*◌, ◌/◌, ◌<◌, ◌==◌, ℕ, true, false, [], None, IfErr, IfNone, IfOk, IfSome, MatchOption, Err, OnErr, OnOk, drop, get_or, length as list_length, min, take};
+ghost use Rattle.std.specs.Prelude.{◌≡◌, ◌≢◌, ◌*◌, ◌/◌, ◌<◌, ◌==◌, ℕ, true, false, [], None, IfErr, IfNone, IfOk, IfSome, MatchOption, Err, Ok, OnErr, OnOk, drop, get_or, length as list_length, min, take};
 ghost use Rattle.std.specs.Option.{option_map};
 ghost use Rattle.art_routes.specs.declared.address.Address.{Address};
 ghost use Rattle.art_routes.specs.Aggregates.{IsAggregated, MatchAlike};
@@ -25,7 +25,7 @@ pub const NO_ROUTE: u8 = 255;
 /// has a condition.
 #[derive(Drop)]
 pub struct NumberRoutes {
-    table: RouteTable<u64>,
+    pub(crate) table: RouteTable<u64>,
 }
 
 impl Model for NumberRoutes {
@@ -114,6 +114,33 @@ impl NumberRoutes {
         match self.table.insert(network, value) {
             Ok(before) => Ok(before),
             Err(_) => Err(Refusal::OutOfMemory),
+        }
+    }
+
+    /// The value of the route to this very network, or None where there was none: then one with this value is added. Memory
+    /// is refused only where there is none. After a refusal the routes are unchanged.
+    pub fn get_or_insert(
+        &mut self,
+        address: &[u8],
+        length: u8,
+        value: u64,
+    ) -> Result<Option<u64>, Refusal>
+        ensures found { IfOk result (λ found. found ≡ value_of self.old (network_in address.now length)) }
+        ensures added { result ≡ Ok None → self.new ≡ put_route self.old (network_in address.now length) value }
+        ensures kept { result ≢ Ok None → self.new ≡ self.old }
+        ensures is_network { OnOk result (is_network address.now length ≡ true) }
+        ensures refusal_due { IfErr result (IsRouteRefused address.now length) }
+        ensures no_route { result ≡ Err Refusal.OutOfMemory → value_of self.old (network_in address.now length) ≡ None }
+    {
+        let Some(network) = network_from(address, length) else {
+            return Err(Refusal::BadNetwork);
+        };
+        match self.table.get(&network).copied() {
+            Some(found) => Ok(Some(found)),
+            None => match self.table.insert(network, value) {
+                Ok(_) => Ok(None),
+                Err(_) => Err(Refusal::OutOfMemory),
+            },
         }
     }
 
@@ -276,7 +303,7 @@ impl NumberRoutes {
     }
 
     // The routes at a network and after it, only after it where it is not included.
-    fn routes_at(&self, network: &Network, inclusive: bool) -> Routes<'_, u64>
+    pub(crate) fn routes_at(&self, network: &Network, inclusive: bool) -> Routes<'_, u64>
         ensures { result ≡ routes_from inclusive network.now self.now }
     {
         if inclusive {

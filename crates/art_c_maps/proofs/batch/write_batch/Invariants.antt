@@ -1,15 +1,13 @@
 use Rattle.std.proofs.Common.{◌≡◌, ◌≤◌, ◌++◌, drop, length, min, take}
-use Rattle.art_mapped.specs.Mapped.{mapped_text}
-use Rattle.art_c_maps.specs.Batch.{begun, ends_of, joined, toward}
-use Rattle.art_c_maps.specs.Entries.{entries_read, keys_of, values_of}
-use Rattle.art_c_maps.specs.Unescaped.{unescaped}
+use Rattle.art_c_maps.specs.Batch.{ends_of, joined, toward}
+use Rattle.art_c_maps.specs.Entries.{entries_in_bytes, keys_of, values_of}
 use Rattle.art_c_maps.proofs.BatchLemmas.{FitsSoFar}
 use Rattle.art_c_maps.proofs.batch.write_batch.Given as goal
 
 -- the first entries are written, they all fit, and the others are left
 abbrev pub invariant-loop-index : goal.invariant-loop-index
-invariant-loop-index l = let all = begun l.fn.prefix (toward l.fn.backward (entries_read unescaped mapped_text l.fn.entries)) in record {
-  left : begun l.fn.prefix (toward l.fn.backward (entries_read unescaped mapped_text l.entries)) ≡ drop l.index all;
+invariant-loop-index l = let all = toward l.fn.backward (entries_in_bytes l.fn.entries) in record {
+  left : toward l.fn.backward (entries_in_bytes l.entries) ≡ drop l.index all;
   enough : l.index ≤ length all;
   at : l.at ≡ length (joined (take l.index (keys_of all)));
   within : l.at ≤ length l.fn.keys;

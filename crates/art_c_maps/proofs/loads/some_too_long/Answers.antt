@@ -1,9 +1,9 @@
-use Rattle.std.proofs.Common.{◌≤◌, ◌^◌, ◌∙◌, List, ℕ, length, subst, sym, arith}
+use Rattle.std.proofs.Common.{◌∙◌, [], subst, arith}
 use Rattle.std.proofs.lemmas.List.{take_all}
-use Rattle.art_mapped.specs.Escaped.{escaped_text}
+use Rattle.std.proofs.lemmas.List.Elements.{All-more}
 use Rattle.art_c_maps.specs.Loads.{NoneTooLong}
 use Rattle.art_c_maps.specs.Many.{cut}
-use Rattle.art_c_maps.proofs.LoadLemmas.{none-more}
+use Rattle.art_c_maps.specs.Refusals.{IsNotTooLong, IsTooLong}
 use Rattle.art_c_maps.proofs.ManyLemmas.{cut-left, length-cut}
 use Rattle.art_c_maps.proofs.loads.some_too_long.Goals as goal
 
@@ -13,8 +13,8 @@ loop-index-preserved c =
     let step = cut-left c.args.keys.now ends c.loop-index.start i c.loop-index-test.true c.loop-index.invariant.left in
     record {
       left = step.1;
-      none = none-more keys i (omega (arith, c.loop-index-test.true, length-cut 0 c.args.keys.now ends)) c.loop-index.invariant.none c.is_too_long.result
-          (λ long. c.is_too_long.ensures.1 (subst (λ (key : List ℕ). 2 ^ 32 ≤ length (escaped_text key)) (sym (c.bytes_between.ensures ∙ step.0)) long)) c.if-is_too_long.false;
+      none = All-more IsNotTooLong keys i [] (omega (arith, c.loop-index-test.true, length-cut 0 c.args.keys.now ends)) c.loop-index.invariant.none
+          (subst IsNotTooLong (c.bytes_between.ensures ∙ step.0) (c.is_too_long.ensures.fits c.if-is_too_long.false));
     }
 
 pub returns-then-is_too_long : goal.returns-then-is_too_long
@@ -25,7 +25,7 @@ returns-then-is_too_long c =
       some = λ yes. (
         i,
         omega (arith, c.loop-index-test.true, length-cut 0 c.args.keys.now ends),
-        subst (λ (key : List ℕ). 2 ^ 32 ≤ length (escaped_text key)) (c.bytes_between.ensures ∙ step.0) (c.is_too_long.ensures.0 c.if-is_too_long.true),
+        subst IsTooLong (c.bytes_between.ensures ∙ step.0) (c.is_too_long.ensures.too_long c.if-is_too_long.true),
       );
       none = λ no. absurd (cc);
     }

@@ -1,57 +1,40 @@
-use Rattle.std.proofs.Common.{◌∙◌, length, min, set, Some, None, sym, ap, arith}
+use Rattle.std.proofs.Common.{◌≡◌, ◌∙◌, length, min, set, sym, ap, arith}
 use Rattle.std.proofs.lemmas.List.{drop-map, length-take}
-use Rattle.art_mapped.specs.Mapped.{mapped_text}
-use Rattle.art_c_maps.specs.Entries.{entries_read, keys_of, values_of}
-use Rattle.art_c_maps.proofs.FoundLemmas.{first-yielded}
-use Rattle.art_c_maps.proofs.NumberLemmas.{number_read}
+use Rattle.art_c_maps.specs.Batch.{toward}
+use Rattle.art_c_maps.specs.Entries.{keys_of, values_of}
 use Rattle.art_c_maps.proofs.WriteLemmas.{all-written, left-behind, none-behind, one-written}
 use Rattle.art_c_maps.proofs.number_map.write_entries.Goals as goal
 
 pub loop-index-preserved : goal.loop-index-preserved
 loop-index-preserved c =
-    let all = entries_read number_read mapped_text c.args.entries in let rest = entries_read number_read mapped_text c.next.new.self in
+    let all = toward c.args.backward c.args.entries in let rest = toward c.args.backward c.next_entry.new.entries in
     let so_far = c.loop-index.invariant in let k = c.loop-index.index in
-    let next = first-yielded number_read mapped_text c.next.result c.loop-index.entries c.next.new.self _ c.next.ensures.steps (Some (c.in-Some.key, c.in-Some.value)) (sym c.in-Some.is ∙ c.entry_of.ensures) in
-    let here = sym so_far.left ∙ next in
-    let behind = left-behind all k (c.in-Some.key, c.in-Some.value) rest here in record {
+    let key = c.in-Some.key.now in let value = c.in-Some.value.now in
+    let here = sym so_far.left ∙ c.in-Some.ensures.some in
+    let behind = left-behind all k (key, value) rest here in record {
       left = behind.0;
       enough = behind.1;
-      keys = ap (λ xs. set xs k c.in-Some.key) so_far.keys ∙ one-written (keys_of all) c.args.keys.now k c.in-Some.key (keys_of rest) (drop-map (λ e. e.0) k all ∙ ap keys_of here) (omega (arith, c.loop-index-test.true, c.min-room.ensures));
-      values = ap (λ xs. set xs k c.in-Some.value) so_far.values ∙ one-written (values_of all) c.args.values.now k c.in-Some.value (values_of rest) (drop-map (λ e. e.1) k all ∙ ap values_of here) (omega (arith, c.loop-index-test.true, c.min-room.ensures));
+      keys = ap (λ xs. set xs k key) so_far.keys ∙ one-written (keys_of all) c.args.keys.now k key (keys_of rest) (drop-map (λ e. e.0) k all ∙ ap keys_of here) (omega (arith, c.loop-index-test.true, c.min-room.ensures));
+      values = ap (λ xs. set xs k value) so_far.values ∙ one-written (values_of all) c.args.values.now k value (values_of rest) (drop-map (λ e. e.1) k all ∙ ap values_of here) (omega (arith, c.loop-index-test.true, c.min-room.ensures));
     }
 
-pub returns-in-None-clause-count : goal.returns-in-None-clause-count
-returns-in-None-clause-count c =
-    let all = entries_read number_read mapped_text c.args.entries in
-    let next = first-yielded number_read mapped_text c.next.result c.loop-index.entries c.next.new.self _ c.next.ensures.steps None (sym c.in-None.is ∙ c.entry_of.ensures) in
-    let end = none-behind all c.loop-index.index (sym c.loop-index.invariant.left ∙ next) in
-    let long = length-take (min (length c.args.keys.now) (length c.args.values.now)) all in
-    omega (arith, end, c.loop-index.invariant.enough, c.loop-index-test.true, c.min-room.ensures, long)
+pub returns-in_default : goal.returns-in_default
+returns-in_default c =
+    let all = toward c.args.backward c.args.entries in let so_far = c.loop-index.invariant in
+    let most = min (length c.args.keys.now) (length c.args.values.now) in
+    let end = none-behind all c.loop-index.index (sym so_far.left ∙ c.in_default.ensures.none) in
+    let count : c.loop-index.index ≡ min most (length all) = omega (arith, end, so_far.enough, c.loop-index-test.true, c.min-room.ensures) in record {
+      count = count ∙ sym (length-take most all);
+      keys = so_far.keys ∙ all-written (λ e. e.0) all c.args.keys.now most c.loop-index.index count;
+      values = so_far.values ∙ all-written (λ e. e.1) all c.args.values.now most c.loop-index.index count;
+    }
 
-pub returns-in-None-clause-keys : goal.returns-in-None-clause-keys
-returns-in-None-clause-keys c =
-    let all = entries_read number_read mapped_text c.args.entries in
-    let next = first-yielded number_read mapped_text c.next.result c.loop-index.entries c.next.new.self _ c.next.ensures.steps None (sym c.in-None.is ∙ c.entry_of.ensures) in
-    let end = none-behind all c.loop-index.index (sym c.loop-index.invariant.left ∙ next) in
-    c.loop-index.invariant.keys
-    ∙ all-written (λ e. e.0) all c.args.keys.now (min (length c.args.keys.now) (length c.args.values.now)) c.loop-index.index (omega (arith, end, c.loop-index.invariant.enough, c.loop-index-test.true, c.min-room.ensures))
-
-pub returns-in-None-clause-values : goal.returns-in-None-clause-values
-returns-in-None-clause-values c =
-    let all = entries_read number_read mapped_text c.args.entries in
-    let next = first-yielded number_read mapped_text c.next.result c.loop-index.entries c.next.new.self _ c.next.ensures.steps None (sym c.in-None.is ∙ c.entry_of.ensures) in
-    let end = none-behind all c.loop-index.index (sym c.loop-index.invariant.left ∙ next) in
-    c.loop-index.invariant.values
-    ∙ all-written (λ e. e.1) all c.args.values.now (min (length c.args.keys.now) (length c.args.values.now)) c.loop-index.index (omega (arith, end, c.loop-index.invariant.enough, c.loop-index-test.true, c.min-room.ensures))
-
-pub returns-clause-keys : goal.returns-clause-keys
-returns-clause-keys c =
-    let all = entries_read number_read mapped_text c.args.entries in
-    c.loop-index.invariant.keys
-    ∙ all-written (λ e. e.0) all c.args.keys.now (min (length c.args.keys.now) (length c.args.values.now)) c.loop-index.index (omega (arith, c.loop-index.invariant.enough, c.loop-index-test.false, c.loop-index.auto.index-end, c.min-room.ensures))
-
-pub returns-clause-values : goal.returns-clause-values
-returns-clause-values c =
-    let all = entries_read number_read mapped_text c.args.entries in
-    c.loop-index.invariant.values
-    ∙ all-written (λ e. e.1) all c.args.values.now (min (length c.args.keys.now) (length c.args.values.now)) c.loop-index.index (omega (arith, c.loop-index.invariant.enough, c.loop-index-test.false, c.loop-index.auto.index-end, c.min-room.ensures))
+pub returns : goal.returns
+returns c =
+    let all = toward c.args.backward c.args.entries in let so_far = c.loop-index.invariant in
+    let most = min (length c.args.keys.now) (length c.args.values.now) in
+    let count : c.loop-index.index ≡ min most (length all) = omega (arith, so_far.enough, c.loop-index-test.false, c.loop-index.auto.index-end, c.min-room.ensures) in record {
+      count = omega (arith, count, length-take most all, c.loop-index-test.false, c.loop-index.auto.index-end);
+      keys = so_far.keys ∙ all-written (λ e. e.0) all c.args.keys.now most c.loop-index.index count;
+      values = so_far.values ∙ all-written (λ e. e.1) all c.args.values.now most c.loop-index.index count;
+    }

@@ -1,4 +1,4 @@
-use Rattle.std.proofs.Common.{◌≡◌, ◌<◌, ◌≤◌, ◌∙◌, ◌++◌, List, [], ℕ, length, min, take, drop, get_or, subst, sym, ap, arith}
+use Rattle.std.proofs.Common.{◌≡◌, ◌<◌, ◌∙◌, ◌++◌, [], length, min, take, drop, get_or, ap, arith}
 use Rattle.std.specs.List.{zip}
 use Rattle.art_bytes.specs.Text.{text_order}
 use Rattle.art_c_maps.specs.Entries.{value_of}
@@ -13,24 +13,11 @@ loop-index-preserved c =
     let in_keys : i < length keys = omega (arith, within, length-cut 0 c.args.keys.now c.args.ends.now) in
     let step = cut-left c.args.keys.now c.args.ends.now c.loop-index.start i (omega (arith, within)) c.loop-index.invariant.left in
     let answer : c.found_beside-is_found.result ≡ (one_if_found (look (get_or keys i [])), found_or (look (get_or keys i [])) before) =
-    c.found_beside-is_found.ensures ∙ ap (λ found. (one_if_found found, found_or found before)) (c.in-Ok.ensures.found ∙ ap look (c.bytes_between.ensures ∙ step.0)) in
+    c.found_beside-is_found.ensures ∙ ap (λ found. (one_if_found found, found_or found before)) (c.get-value.ensures ∙ ap look (c.bytes_between.ensures ∙ step.0)) in
     record {
       left = step.1;
       found = one-found look keys c.args.found.now c.loop-index.found i [] in_keys (omega (arith, within)) c.loop-index.invariant.found c.found_beside-is_found.result.0 (ap (λ pair. pair.0) answer);
       values = one-value look keys c.args.values.now c.loop-index.values i [] 0 in_keys (omega (arith, within)) c.loop-index.invariant.values c.found_beside-is_found.result.1 (ap (λ pair. pair.1) answer);
-    }
-
-pub returns-in_default : goal.returns-in_default
-returns-in_default c =
-    let keys = cut c.args.keys.now c.args.ends.now in let i = c.loop-index.index in let look = value_of text_order c.args.self.now in
-    let within : i < min (length c.args.ends.now) (min (length c.args.found.now) (length c.args.values.now)) = omega (arith, c.loop-index-test.true, c.min-count.ensures, c.min.ensures) in
-    let step = cut-left c.args.keys.now c.args.ends.now c.loop-index.start i (omega (arith, within)) c.loop-index.invariant.left in
-    record {
-      all = tt;
-      stopped = within;
-      found = c.loop-index.invariant.found ∙ all-found look keys c.args.found.now i (omega (arith, within, length-cut 0 c.args.keys.now c.args.ends.now));
-      values = c.loop-index.invariant.values ∙ all-values look keys c.args.values.now i (omega (arith, within, length-cut 0 c.args.keys.now c.args.ends.now)) (omega (arith, within));
-      succeeds = λ short. c.in_default.ensures.succeeds (subst (λ (key : List ℕ). length key ≤ 256) (sym (c.bytes_between.ensures ∙ step.0)) (short i [] (omega (arith, within, length-cut 0 c.args.keys.now c.args.ends.now))));
     }
 
 pub returns-clause-found : goal.returns-clause-found

@@ -1,4 +1,4 @@
-use Rattle.std.proofs.Common.{◌≡◌, ◌<◌, ◌∙◌, [], length, take, get_or, subst, ap, arith}
+use Rattle.std.proofs.Common.{◌≡◌, ◌<◌, ◌∙◌, [], length, take, get_or, subst, sym, ap, arith}
 use Rattle.std.specs.List.{zip}
 use Rattle.std.proofs.lemmas.Slice.Zip.{length-zip}
 use Rattle.art_bytes.specs.Text.{text_order}
@@ -29,7 +29,8 @@ returns-in-Err c =
       entries = c.in-Err.ensures.same_entries ∙ c.loop-index.invariant.entries;
       all = tt;
       stopped = omega (arith, in_ends, length-cut 0 c.args.keys.now c.args.ends.now, length-zip keys c.args.values.now, c.loop-index-test.true, c.min-count.ensures);
-      refusal_due = subst (λ key. IsBytesRefused key c.in-Err.refusal) (c.bytes_between.ensures ∙ step.0) c.in-Err.ensures.refusal_due;
+      refusal_due = subst (λ held. IsBytesRefused held (get_or keys i []) c.in-Err.refusal) (sym c.in-Err.ensures.same_entries)
+          (subst (λ key. IsBytesRefused c.loop-index.self key c.in-Err.refusal) (c.bytes_between.ensures ∙ step.0) c.in-Err.ensures.refusal_due);
     }
 
 pub returns-clause-entries : goal.returns-clause-entries

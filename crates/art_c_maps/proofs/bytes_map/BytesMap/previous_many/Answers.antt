@@ -1,11 +1,11 @@
-use Rattle.std.proofs.Common.{◌∙◌, length, min, refl, ap}
-use Rattle.art_c_maps.specs.Batch.{ends_of, fitting, joined, unfit_len}
+use Rattle.std.proofs.Common.{◌∙◌, true, length, min, ap}
+use Rattle.art_c_maps.specs.Batch.{ends_of, fitting, joined, toward, unfit_len}
 use Rattle.art_c_maps.specs.Entries.{begun_with, first_of, keys_of, values_of}
 use Rattle.art_c_maps.proofs.bytes_map.BytesMap.previous_many.Goals as goal
 
 pub returns : goal.returns
 returns c =
-    let run = c.in_ok-entries.ensures.run in
+    let run = ap (toward true) c.up_to_with_prefix-entries.ensures in
     let most = min (length c.args.ends.now) (length c.args.values.now) in let size = length c.args.keys.now in
     record {
       count = c.write_batch.ensures.count ∙ ap (λ es. length (fitting most size es)) run;
@@ -13,6 +13,4 @@ returns c =
       keys = c.write_batch.ensures.keys ∙ ap (λ es. begun_with (joined (keys_of (fitting most size es))) c.args.keys.now) run;
       ends = c.write_batch.ensures.ends ∙ ap (λ es. begun_with (ends_of (fitting most size es)) c.args.ends.now) run;
       values = c.write_batch.ensures.values ∙ ap (λ es. begun_with (values_of (fitting most size es)) c.args.values.now) run;
-      not_written = tt;
-      succeeds = λ _ _. refl;
     }
