@@ -1,10 +1,9 @@
-//! The values of a map or a table, each in a box whose address the library has.
+//! The values of a table, each in a box whose address the library has.
 use std::marker::PhantomData;
 use std::mem;
 use std::ptr::{self, NonNull};
 
-/// Values in boxes that are linked with each other: so all of them are dropped without their keys, to read which may take
-/// memory.
+/// Values in boxes that are linked with each other: so all of them are dropped without a walk of the table.
 pub(crate) struct Chain<V> {
     // INVARIANT: the first of the boxes, which this chain alone has. Each is linked with the next one and with the one before.
     first: Option<NonNull<Link<V>>>,

@@ -1,154 +1,11 @@
-//! The place of a key in a map, with its entry or without one.
-use crate::boxed::Map;
-use crate::chain::address;
+//! The place of a key in a [`WordMap`], with its entry or without one.
 use crate::key::Key;
 use crate::refusal::{granted, Refusal};
 use crate::words::{Shown, WordMap};
 use std::marker::PhantomData;
 use std::ops::{Deref, DerefMut};
 use std::ptr::NonNull;
-use std::{fmt, mem, thread};
-
-/// The place of a key in a [`Map`].
-#[derive(Debug)]
-pub enum Entry<'a, V, K: Key> {
-    /// There is no entry.
-    Vacant(VacantEntry<'a, V, K>),
-    /// There is one.
-    Occupied(OccupiedEntry<'a, V, K>),
-}
-
-/// A key without an entry in a [`Map`].
-pub struct VacantEntry<'a, V, K: Key> {
-    pub(crate) map: &'a mut Map<V, K>,
-    pub(crate) key: K,
-}
-
-/// An entry of a [`Map`].
-pub struct OccupiedEntry<'a, V, K: Key> {
-    pub(crate) map: &'a mut Map<V, K>,
-    pub(crate) key: K,
-    pub(crate) word: u64,
-}
-
-impl<'a, V, K: Key> Entry<'a, V, K> {
-    /// The key.
-    pub fn key(&self) -> &K {
-        match self {
-            Entry::Vacant(entry) => &entry.key,
-            Entry::Occupied(entry) => &entry.key,
-        }
-    }
-
-    /// The value, which is this one where there is none yet.
-    pub fn or_insert(self, value: V) -> &'a mut V {
-        self.or_insert_with(|| value)
-    }
-
-    /// The value, which is made where there is none yet.
-    pub fn or_insert_with(self, make: impl FnOnce() -> V) -> &'a mut V {
-        self.or_insert_with_key(|_| make())
-    }
-
-    /// The value, which is made of the key where there is none yet.
-    pub fn or_insert_with_key(self, make: impl FnOnce(&K) -> V) -> &'a mut V {
-        match self {
-            Entry::Vacant(entry) => {
-                let value = make(&entry.key);
-                entry.insert(value)
-            }
-            Entry::Occupied(entry) => entry.into_mut(),
-        }
-    }
-
-    /// The value, which is the default one where there is none yet.
-    pub fn or_default(self) -> &'a mut V
-    where
-        V: Default,
-    {
-        self.or_insert_with(V::default)
-    }
-
-    /// Changes the value where there is one.
-    pub fn and_modify(mut self, change: impl FnOnce(&mut V)) -> Self {
-        if let Entry::Occupied(entry) = &mut self {
-            change(entry.get_mut());
-        }
-        self
-    }
-}
-
-impl<'a, V, K: Key> VacantEntry<'a, V, K> {
-    /// The key.
-    pub fn key(&self) -> &K {
-        &self.key
-    }
-
-    /// The key, by value.
-    pub fn into_key(self) -> K {
-        self.key
-    }
-
-    /// Sets the value of the key.
-    pub fn insert(self, value: V) -> &'a mut V {
-        let word = self.map.add(self.key.sought(), value);
-        // SAFETY: the map has the new word, and is borrowed as long.
-        unsafe { &mut *address(word) }
-    }
-}
-
-impl<'a, V, K: Key> OccupiedEntry<'a, V, K> {
-    /// The key.
-    pub fn key(&self) -> &K {
-        &self.key
-    }
-
-    /// The value.
-    pub fn get(&self) -> &V {
-        // SAFETY: the map has the word, and is borrowed as long.
-        unsafe { &*address(self.word) }
-    }
-
-    /// The value, to be changed.
-    pub fn get_mut(&mut self) -> &mut V {
-        // SAFETY: the map has the word, and is borrowed as long.
-        unsafe { &mut *address(self.word) }
-    }
-
-    /// The value, to be changed for as long as the map is borrowed.
-    pub fn into_mut(self) -> &'a mut V {
-        // SAFETY: the map has the word, and is borrowed as long.
-        unsafe { &mut *address(self.word) }
-    }
-
-    /// Sets the value, and returns the one before.
-    pub fn insert(&mut self, value: V) -> V {
-        mem::replace(self.get_mut(), value)
-    }
-
-    /// Removes the entry, and returns its value.
-    pub fn remove(self) -> V {
-        self.remove_entry().1
-    }
-
-    /// Removes the entry, and returns its key and value.
-    pub fn remove_entry(self) -> (K, V) {
-        let value = self.map.remove_sought(self.key.sought()).expect("the map has the entry");
-        (self.key, value)
-    }
-}
-
-impl<V, K: Key> fmt::Debug for VacantEntry<'_, V, K> {
-    fn fmt(&self, out: &mut fmt::Formatter<'_>) -> fmt::Result {
-        out.debug_tuple("VacantEntry").field(&Shown(self.key.clone())).finish()
-    }
-}
-
-impl<V: fmt::Debug, K: Key> fmt::Debug for OccupiedEntry<'_, V, K> {
-    fn fmt(&self, out: &mut fmt::Formatter<'_>) -> fmt::Result {
-        out.debug_struct("OccupiedEntry").field("key", &Shown(self.key.clone())).field("value", self.get()).finish()
-    }
-}
+use std::{fmt, mem};
 
 /// The place of a key in a [`WordMap`], whose values are copied in and out.
 #[derive(Debug)]
@@ -247,7 +104,7 @@ impl<K: Key> OccupiedWord<'_, K> {
 
     /// Removes the entry, and returns its key and value.
     pub fn remove_entry(self) -> (K, u64) {
-        granted(self.map.take(self.key.sought()));
+        self.map.take(self.key.sought());
         (self.key, self.value)
     }
 }
@@ -286,9 +143,8 @@ impl<K: Key> Clone for Lent<'_, K> {
 
 impl<K: Key> Copy for Lent<'_, K> {}
 
-/// A value of a [`WordMap`], to be changed: where it was, it is written to the map when this is dropped. That panics where
-/// memory for the key is refused, unless the thread is panicking already; the map then has the value of before. So it has where
-/// this is given to [`mem::forget`]: the change is lost.
+/// A value of a [`WordMap`], to be changed: where it was, it is written to the map when this is dropped, which takes no memory.
+/// Where this is given to [`mem::forget`], the change is lost.
 ///
 /// Those that an iterator gave may be alive at once, and be dropped in any order. As all of them write to one map, neither
 /// they nor their iterators go to another thread:
@@ -330,13 +186,9 @@ impl<K: Key> DerefMut for ValueMut<'_, K> {
 
 impl<K: Key> Drop for ValueMut<'_, K> {
     fn drop(&mut self) {
-        if self.value == self.before {
-            return;
-        }
-        let written = self.map.put(self.key.sought(), self.value);
-        // Where one of several guards has panicked, the next one would end the process.
-        if !thread::panicking() {
-            granted(written);
+        if self.value != self.before {
+            // The key is there, so this is not refused.
+            granted(self.map.put(self.key.sought(), self.value));
         }
     }
 }

@@ -1,6 +1,6 @@
 //! The two kinds of keys, and the calls for each.
 use crate::raw::{self, RawMap};
-use crate::refusal::{found, Refusal};
+use crate::refusal::is_some;
 use std::collections::VecDeque;
 use std::fmt;
 use std::hash::Hash;
@@ -37,6 +37,7 @@ impl AsKey<u64> for &u64 {
 }
 
 /// Which entry to find, or to remove.
+#[derive(Clone, Copy)]
 pub enum Find {
     First,
     Last,
@@ -63,8 +64,14 @@ impl<W> Many<W> {
         Many { keys: Vec::new(), ends: Vec::new(), values: Vec::new() }
     }
 
-    pub(crate) fn into_values(self) -> Vec<u64> {
-        self.values
+    pub(crate) fn is_empty(&self) -> bool {
+        self.values.is_empty()
+    }
+}
+
+impl<W> Default for Many<W> {
+    fn default() -> Self {
+        Self::new()
     }
 }
 
@@ -89,16 +96,14 @@ pub trait Calls: Sized {
     unsafe fn free(map: *mut RawMap);
     unsafe fn len(map: *mut RawMap) -> usize;
     unsafe fn clear(map: *mut RawMap);
-    unsafe fn reserve(map: *mut RawMap, additional: usize) -> u32;
-    unsafe fn compact(map: *mut RawMap) -> u32;
     unsafe fn insert(map: *mut RawMap, key: &Self::Sought, value: u64, before: &mut u64) -> u32;
-    unsafe fn get(map: *mut RawMap, key: &Self::Sought, value: &mut u64) -> u32;
-    unsafe fn remove(map: *mut RawMap, key: &Self::Sought, value: &mut u64) -> u32;
+    unsafe fn get(map: *mut RawMap, key: &Self::Sought) -> Option<u64>;
+    unsafe fn remove(map: *mut RawMap, key: &Self::Sought) -> Option<u64>;
     /// Inserts entries one after another.
     unsafe fn insert_many(map: *mut RawMap, many: &Many<Self::Word>) -> u32;
     /// Puts entries whose keys ascend into a map without entries.
     unsafe fn load(map: *mut RawMap, many: &Many<Self::Word>) -> u32;
-    unsafe fn find(map: *mut RawMap, which: Find) -> Result<Option<(Self, u64)>, Refusal>;
+    unsafe fn find(map: *mut RawMap, which: Find) -> Option<(Self, u64)>;
 
     /// Appends the next entries after a key, from it on where that is included: at least one if there
     /// are any, and `most` at most. Or the last ones before it, from the last one down.
@@ -109,16 +114,14 @@ pub trait Calls: Sized {
         inclusive: bool,
         most: usize,
         into: &mut VecDeque<(Self, u64)>,
-    ) -> Result<(), Refusal>;
+    );
 
     /// Shows a key.
     fn show(&self, out: &mut fmt::Formatter<'_>) -> fmt::Result;
 }
 
 /// Calls with buffers for a key until it fits, and returns the key and the value where one is found.
-fn with_buffer(
-    mut call: impl FnMut(&mut [u8], &mut usize, &mut u64) -> u32,
-) -> Result<Option<(Vec<u8>, u64)>, Refusal> {
+fn with_buffer(mut call: impl FnMut(&mut [u8], &mut usize, &mut u64) -> u32) -> Option<(Vec<u8>, u64)> {
     let mut key = vec![0; 32];
     loop {
         let (mut len, mut value) = (0, 0);
@@ -127,7 +130,7 @@ fn with_buffer(
             key.resize(len, 0);
         } else {
             key.truncate(len);
-            return Ok(found(status)?.then_some((key, value)));
+            return is_some(status).then_some((key, value));
         }
     }
 }
@@ -162,24 +165,20 @@ impl Calls for Vec<u8> {
         raw::art_bytes_clear(map)
     }
 
-    unsafe fn reserve(map: *mut RawMap, additional: usize) -> u32 {
-        raw::art_bytes_reserve(map, additional)
-    }
-
-    unsafe fn compact(map: *mut RawMap) -> u32 {
-        raw::art_bytes_compact(map)
-    }
-
     unsafe fn insert(map: *mut RawMap, key: &[u8], value: u64, before: &mut u64) -> u32 {
         raw::art_bytes_insert(map, key.as_ptr(), key.len(), value, before)
     }
 
-    unsafe fn get(map: *mut RawMap, key: &[u8], value: &mut u64) -> u32 {
-        raw::art_bytes_get(map, key.as_ptr(), key.len(), value)
+    #[inline]
+    unsafe fn get(map: *mut RawMap, key: &[u8]) -> Option<u64> {
+        let mut value = 0;
+        is_some(raw::art_bytes_get(map, key.as_ptr(), key.len(), &mut value)).then_some(value)
     }
 
-    unsafe fn remove(map: *mut RawMap, key: &[u8], value: &mut u64) -> u32 {
-        raw::art_bytes_remove(map, key.as_ptr(), key.len(), value)
+    #[inline]
+    unsafe fn remove(map: *mut RawMap, key: &[u8]) -> Option<u64> {
+        let mut value = 0;
+        is_some(raw::art_bytes_remove(map, key.as_ptr(), key.len(), &mut value)).then_some(value)
     }
 
     unsafe fn insert_many(map: *mut RawMap, many: &Many<u8>) -> u32 {
@@ -196,7 +195,7 @@ impl Calls for Vec<u8> {
         raw::art_bytes_load(map, keys.as_ptr(), keys.len(), ends.as_ptr(), ends.len(), values.as_ptr(), values.len())
     }
 
-    unsafe fn find(map: *mut RawMap, which: Find) -> Result<Option<(Vec<u8>, u64)>, Refusal> {
+    unsafe fn find(map: *mut RawMap, which: Find) -> Option<(Vec<u8>, u64)> {
         with_buffer(|key, len, value| {
             let (out, room) = (key.as_mut_ptr(), key.len());
             match which {
@@ -215,7 +214,7 @@ impl Calls for Vec<u8> {
         inclusive: bool,
         most: usize,
         into: &mut VecDeque<(Vec<u8>, u64)>,
-    ) -> Result<(), Refusal> {
+    ) {
         let (mut ends, mut values) = ([0; MOST_FETCHED], [0; MOST_FETCHED]);
         let most = most.min(MOST_FETCHED);
         let call = match toward {
@@ -238,13 +237,12 @@ impl Calls for Vec<u8> {
                 keys = &mut many;
                 continue;
             }
-            found(status)?;
             let mut begin = 0;
             for (&end, &value) in ends.iter().zip(&values).take(count) {
                 into.push_back((keys[begin..end].to_vec(), value));
                 begin = end;
             }
-            return Ok(());
+            return;
         }
     }
 
@@ -285,24 +283,20 @@ impl Calls for u64 {
         raw::art_u64_clear(map)
     }
 
-    unsafe fn reserve(map: *mut RawMap, additional: usize) -> u32 {
-        raw::art_u64_reserve(map, additional)
-    }
-
-    unsafe fn compact(map: *mut RawMap) -> u32 {
-        raw::art_u64_compact(map)
-    }
-
     unsafe fn insert(map: *mut RawMap, key: &u64, value: u64, before: &mut u64) -> u32 {
         raw::art_u64_insert(map, *key, value, before)
     }
 
-    unsafe fn get(map: *mut RawMap, key: &u64, value: &mut u64) -> u32 {
-        raw::art_u64_get(map, *key, value)
+    #[inline]
+    unsafe fn get(map: *mut RawMap, key: &u64) -> Option<u64> {
+        let mut value = 0;
+        is_some(raw::art_u64_get(map, *key, &mut value)).then_some(value)
     }
 
-    unsafe fn remove(map: *mut RawMap, key: &u64, value: &mut u64) -> u32 {
-        raw::art_u64_remove(map, *key, value)
+    #[inline]
+    unsafe fn remove(map: *mut RawMap, key: &u64) -> Option<u64> {
+        let mut value = 0;
+        is_some(raw::art_u64_remove(map, *key, &mut value)).then_some(value)
     }
 
     unsafe fn insert_many(map: *mut RawMap, many: &Many<u64>) -> u32 {
@@ -314,7 +308,7 @@ impl Calls for u64 {
         raw::art_u64_load(map, many.keys.as_ptr(), many.keys.len(), many.values.as_ptr(), many.values.len())
     }
 
-    unsafe fn find(map: *mut RawMap, which: Find) -> Result<Option<(u64, u64)>, Refusal> {
+    unsafe fn find(map: *mut RawMap, which: Find) -> Option<(u64, u64)> {
         let (mut key, mut value) = (0, 0);
         let status = match which {
             Find::First => raw::art_u64_first(map, &mut key, &mut value),
@@ -322,7 +316,7 @@ impl Calls for u64 {
             Find::PopFirst => raw::art_u64_pop_first(map, &mut key, &mut value),
             Find::PopLast => raw::art_u64_pop_last(map, &mut key, &mut value),
         };
-        Ok(found(status)?.then_some((key, value)))
+        is_some(status).then_some((key, value))
     }
 
     unsafe fn fetch(
@@ -332,7 +326,7 @@ impl Calls for u64 {
         inclusive: bool,
         most: usize,
         into: &mut VecDeque<(u64, u64)>,
-    ) -> Result<(), Refusal> {
+    ) {
         let (mut keys, mut values) = ([0; MOST_FETCHED], [0; MOST_FETCHED]);
         let most = most.min(MOST_FETCHED);
         let call = match toward {
@@ -341,7 +335,6 @@ impl Calls for u64 {
         };
         let count = call(map, *from, inclusive, keys.as_mut_ptr(), most, values.as_mut_ptr(), most);
         into.extend(keys.into_iter().zip(values).take(count));
-        Ok(())
     }
 
     fn show(&self, out: &mut fmt::Formatter<'_>) -> fmt::Result {

@@ -1,7 +1,7 @@
 //! Iterators over words. The last key is the cursor, and no key comes or goes while one is borrowed from the map.
 use crate::entry::{Lent, ValueMut};
 use crate::key::{Find, Key, Toward};
-use crate::refusal::{granted, Refusal};
+use crate::refusal::granted;
 use crate::words::{Shown, WordMap};
 use std::collections::VecDeque;
 use std::fmt;
@@ -48,9 +48,9 @@ impl<K: Key> Cursor<K> {
         }
     }
 
-    pub(crate) fn try_next(&mut self, map: &WordMap<K>) -> Result<Option<(K, u64)>, Refusal> {
+    pub(crate) fn next(&mut self, map: &WordMap<K>) -> Option<(K, u64)> {
         if self.ahead.is_empty() && self.is_within_end(&self.from.0) {
-            map.fetch(Toward::End, &self.from.0, self.from.1, self.batch, &mut self.ahead)?;
+            map.fetch(Toward::End, &self.from.0, self.from.1, self.batch, &mut self.ahead);
             if let Some((last, _)) = self.ahead.back() {
                 self.from = (last.clone(), false);
             }
@@ -61,18 +61,18 @@ impl<K: Key> Cursor<K> {
         if next.is_none() {
             self.ahead.clear();
             // What is left was fetched from the end.
-            return Ok(self.behind.pop_back());
+            return self.behind.pop_back();
         }
-        Ok(next)
+        next
     }
 
-    fn try_next_back(&mut self, map: &WordMap<K>) -> Result<Option<(K, u64)>, Refusal> {
+    fn next_back(&mut self, map: &WordMap<K>) -> Option<(K, u64)> {
         if self.behind.is_empty() {
             let mut fetched = VecDeque::new();
             match &self.until {
-                Bound::Included(end) => map.fetch(Toward::Start, end, true, self.batch, &mut fetched)?,
-                Bound::Excluded(end) => map.fetch(Toward::Start, end, false, self.batch, &mut fetched)?,
-                Bound::Unbounded => fetched.extend(map.find(Find::Last)?),
+                Bound::Included(end) => map.fetch(Toward::Start, end, true, self.batch, &mut fetched),
+                Bound::Excluded(end) => map.fetch(Toward::Start, end, false, self.batch, &mut fetched),
+                Bound::Unbounded => fetched.extend(map.find(Find::Last)),
             }
             if let Some((key, _)) = fetched.back() {
                 self.until = Bound::Excluded(key.clone());
@@ -81,7 +81,7 @@ impl<K: Key> Cursor<K> {
             self.behind = fetched;
             self.batch = self.batch.saturating_mul(2);
         }
-        Ok(self.behind.pop_front())
+        self.behind.pop_front()
     }
 }
 
@@ -102,13 +102,13 @@ impl<K: Key> Iterator for Range<'_, K> {
     type Item = (K, u64);
 
     fn next(&mut self) -> Option<(K, u64)> {
-        granted(self.cursor.try_next(self.map))
+        self.cursor.next(self.map)
     }
 }
 
 impl<K: Key> DoubleEndedIterator for Range<'_, K> {
     fn next_back(&mut self) -> Option<(K, u64)> {
-        granted(self.cursor.try_next_back(self.map))
+        self.cursor.next_back(self.map)
     }
 }
 
@@ -131,13 +131,13 @@ impl<'a, K: Key> Iterator for Guards<'a, K> {
     type Item = ValueMut<'a, K>;
 
     fn next(&mut self) -> Option<ValueMut<'a, K>> {
-        granted(self.map.look(|map| self.cursor.try_next(map))).map(|entry| self.guard(entry))
+        self.map.look(|map| self.cursor.next(map)).map(|entry| self.guard(entry))
     }
 }
 
 impl<K: Key> DoubleEndedIterator for Guards<'_, K> {
     fn next_back(&mut self) -> Option<Self::Item> {
-        granted(self.map.look(|map| self.cursor.try_next_back(map))).map(|entry| self.guard(entry))
+        self.map.look(|map| self.cursor.next_back(map)).map(|entry| self.guard(entry))
     }
 }
 
@@ -202,10 +202,11 @@ impl<K: Key> FusedIterator for IntoIter<K> {}
 
 /// An iterator, which gives a part of each entry that the one inside it gives.
 macro_rules! gives {
-    ([$($generics:tt)*] $name:ty => $item:ty, $part:expr) => {
+    ([$($generics:tt)*] $name:ty => $item:ty, $part:expr $(, { $($more:tt)* })?) => {
         impl<$($generics)*> Iterator for $name {
             type Item = $item;
 
+            #[inline]
             fn next(&mut self) -> Option<$item> {
                 self.0.next().map($part)
             }
@@ -217,9 +218,16 @@ macro_rules! gives {
             fn nth(&mut self, skipped: usize) -> Option<$item> {
                 self.0.nth(skipped).map($part)
             }
+
+            fn last(mut self) -> Option<$item> {
+                self.next_back()
+            }
+
+            $($($more)*)?
         }
 
         impl<$($generics)*> DoubleEndedIterator for $name {
+            #[inline]
             fn next_back(&mut self) -> Option<$item> {
                 self.0.next_back().map($part)
             }
@@ -235,13 +243,32 @@ macro_rules! gives {
 
 /// The same, where that one knows how many entries are left.
 macro_rules! gives_all {
-    ([$($generics:tt)*] $name:ty => $item:ty, $part:expr) => {
-        crate::range::gives!([$($generics)*] $name => $item, $part);
+    ([$($generics:tt)*] $name:ty => $item:ty, $part:expr $(, { $($more:tt)* })?) => {
+        crate::range::gives!([$($generics)*] $name => $item, $part $(, { $($more)* })?);
         impl<$($generics)*> ExactSizeIterator for $name {}
     };
 }
 
-pub(crate) use {gives, gives_all};
+/// The least and the greatest of what an iterator gives in ascending order.
+macro_rules! least_and_greatest {
+    ($item:ty) => {
+        fn min(mut self) -> Option<$item>
+        where
+            $item: Ord,
+        {
+            self.next()
+        }
+
+        fn max(mut self) -> Option<$item>
+        where
+            $item: Ord,
+        {
+            self.next_back()
+        }
+    };
+}
+
+pub(crate) use {gives, gives_all, least_and_greatest};
 
 /// All entries of a map, from either end.
 #[derive(Clone)]
@@ -315,10 +342,10 @@ impl<K: Key, F: FnMut(&K, &mut u64) -> bool> Iterator for ExtractIf<'_, K, F> {
 
     fn next(&mut self) -> Option<(K, u64)> {
         loop {
-            let (key, before) = granted(self.cursor.try_next(self.map))?;
+            let (key, before) = self.cursor.next(self.map)?;
             let mut value = before;
             if (self.picks)(&key, &mut value) {
-                granted(self.map.take(key.sought()));
+                self.map.take(key.sought());
                 return Some((key, value));
             }
             if value != before {

@@ -18,15 +18,14 @@ pub(crate) const NO_MEMORY: u32 = 2;
 pub(crate) const KEY_TOO_LONG: u32 = 3;
 pub(crate) const SMALL_BUFFER: u32 = 4;
 pub(crate) const NOT_ASCENDING: u32 = 8;
-pub(crate) const NO_COUNT: usize = usize::MAX;
+pub(crate) const INSERT: u8 = 0;
+pub(crate) const REMOVE: u8 = 1;
 
 extern "C" {
     pub(crate) fn art_bytes_new(map: *mut RawMap) -> u32;
     pub(crate) fn art_bytes_free(map: *mut RawMap);
     pub(crate) fn art_bytes_len(map: *mut RawMap) -> usize;
     pub(crate) fn art_bytes_clear(map: *mut RawMap);
-    pub(crate) fn art_bytes_reserve(map: *mut RawMap, additional: usize) -> u32;
-    pub(crate) fn art_bytes_compact(map: *mut RawMap) -> u32;
     pub(crate) fn art_bytes_insert(map: *mut RawMap, key: *const u8, len: usize, value: u64, before: *mut u64) -> u32;
     pub(crate) fn art_bytes_get(map: *mut RawMap, key: *const u8, len: usize, value: *mut u64) -> u32;
     pub(crate) fn art_bytes_remove(map: *mut RawMap, key: *const u8, len: usize, value: *mut u64) -> u32;
@@ -115,8 +114,6 @@ extern "C" {
     pub(crate) fn art_u64_free(map: *mut RawMap);
     pub(crate) fn art_u64_len(map: *mut RawMap) -> usize;
     pub(crate) fn art_u64_clear(map: *mut RawMap);
-    pub(crate) fn art_u64_reserve(map: *mut RawMap, additional: usize) -> u32;
-    pub(crate) fn art_u64_compact(map: *mut RawMap) -> u32;
     pub(crate) fn art_u64_insert(map: *mut RawMap, key: u64, value: u64, before: *mut u64) -> u32;
     pub(crate) fn art_u64_get(map: *mut RawMap, key: u64, value: *mut u64) -> u32;
     pub(crate) fn art_u64_remove(map: *mut RawMap, key: u64, value: *mut u64) -> u32;
@@ -213,6 +210,45 @@ extern "C" {
         width: *mut usize,
         length: *mut u8,
         value: *mut u64,
+    ) -> u32;
+    pub(crate) fn art_routes_previous(
+        map: *mut RawMap,
+        to: *const u8,
+        to_width: usize,
+        to_length: u8,
+        inclusive: bool,
+        address: *mut u8,
+        capacity: usize,
+        width: *mut usize,
+        length: *mut u8,
+        value: *mut u64,
+    ) -> u32;
+    pub(crate) fn art_routes_available_many(
+        map: *mut RawMap,
+        address: *const u8,
+        width: usize,
+        length: u8,
+        part_length: u8,
+        after: *const u8,
+        after_width: usize,
+        addresses: *mut u8,
+        capacity: usize,
+        count: *mut usize,
+    ) -> u32;
+    pub(crate) fn art_routes_next_difference(
+        map: *mut RawMap,
+        new_map: *mut RawMap,
+        from: *const u8,
+        from_width: usize,
+        from_length: u8,
+        inclusive: bool,
+        address: *mut u8,
+        capacity: usize,
+        width: *mut usize,
+        length: *mut u8,
+        change: *mut u8,
+        before: *mut u64,
+        after: *mut u64,
     ) -> u32;
     pub(crate) fn art_routes_covering(
         map: *mut RawMap,

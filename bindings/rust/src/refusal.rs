@@ -6,7 +6,7 @@ use std::fmt;
 pub enum Refusal {
     /// No memory was found.
     OutOfMemory,
-    /// The key has 2^32 bytes or more, with each zero counted twice and two more.
+    /// The key has more than 3,817,748,704 bytes.
     KeyTooLong,
     /// Some key is not below the next one: of `from_ascending` alone.
     NotAscending,
@@ -24,7 +24,14 @@ impl fmt::Display for Refusal {
 
 impl std::error::Error for Refusal {}
 
-/// Whether a call found an entry, by its status.
+/// Whether a call that is never refused found an entry, by its status.
+#[inline]
+pub(crate) fn is_some(status: u32) -> bool {
+    debug_assert!(status <= raw::SOME, "status {status}");
+    status == raw::SOME
+}
+
+/// The same of a call that may be refused.
 pub(crate) fn found(status: u32) -> Result<bool, Refusal> {
     match status {
         raw::NONE => Ok(false),

@@ -1,22 +1,20 @@
 use crate::chain::{address, Chain};
 use crate::network::Network;
 use crate::raw::{self, RawMap};
-use crate::refusal::{found, granted, Refusal};
+use crate::refusal::{found, granted, is_some, Refusal};
+use crate::routes_entry::{Entry, OccupiedEntry, VacantEntry};
+use crate::routes_iter::{Cover, Cursor, Differences, DirectChildren, Free, IntoIter, Iter, IterMut};
 use std::collections::HashMap;
 use std::hash::Hash;
-use std::iter::{self, FusedIterator};
-use std::marker::PhantomData;
-use std::{fmt, mem};
-
-/// The most routes that cover one network: those of each length of IPv6.
-const MOST_AROUND: usize = 129;
+use std::{fmt, iter, mem};
 
 /// A route table: values by IPv4 and IPv6 networks, of which the longest that contains an address is found. The names
 /// are those of `PrefixMap` in the crate `prefix-trie`.
 ///
 /// Calls take a [`Network`], as `parse()` makes it of a text, and `into()` of an address. IPv4 and IPv6 never match each
 /// other. Each value is in a box. Where memory is refused, nothing changes: [`try_put`](Self::try_put) and the like return the
-/// [`Refusal`], the others panic, and `extend` keeps the routes before. `clear` and drops take no memory.
+/// [`Refusal`], the others panic; `extend`, [`retain`](Self::retain) and [`remove_covered`](Self::remove_covered) keep what they
+/// did until then. Look-ups and iterators are never refused, and `clear` and drops take no memory.
 ///
 /// ```
 /// use std::net::IpAddr;
@@ -37,8 +35,8 @@ const MOST_AROUND: usize = 129;
 pub struct RouteTable<V> {
     // INVARIANT: each word is that of one value, and each value has its word here. Moved with this struct: what moved is used no
     // more. A copy is for one call that only looks.
-    raw: RawMap,
-    values: Chain<V>,
+    pub(crate) raw: RawMap,
+    pub(crate) values: Chain<V>,
 }
 
 // SAFETY: as for `WordMap`.
@@ -62,7 +60,7 @@ impl<V> RouteTable<V> {
     // A handle for one call that only looks. SAFETY of each use, and of those of the handle itself: it holds a table until
     // `drop`. A call that changes the table borrows it mutably, and no call of the library calls back. A network is one of the
     // library, whose bytes are there, and so are the places that are written.
-    fn own(&self) -> RawMap {
+    pub(crate) fn own(&self) -> RawMap {
         self.raw.clone()
     }
 
@@ -119,7 +117,7 @@ impl<V> RouteTable<V> {
         let ((octets, width), mut word) = (network.octets(), 0);
         let status =
             unsafe { raw::art_routes_get(&mut self.own(), octets.as_ptr(), width, network.length(), &mut word) };
-        granted(found(status)).then_some(word)
+        is_some(status).then_some(word)
     }
 
     /// The value of the route to this very network.
@@ -178,8 +176,61 @@ impl<V> RouteTable<V> {
         Ok(count)
     }
 
+    /// Keeps the routes for which the closure returns `true`, in order. It may change their values. Where memory is refused, or
+    /// the closure panics, the routes before are kept or gone as it said, and the others stay.
+    ///
+    /// ```
+    /// use verified_art::{Network, RouteTable};
+    ///
+    /// let routes = [("10.0.0.0/8", 1), ("10.1.0.0/16", 2), ("::/0", 3)];
+    /// let mut routes: RouteTable<_> = routes.map(|(text, value)| (text.parse().unwrap(), value)).into();
+    /// routes.retain(|network, value| {
+    ///     *value *= 10;
+    ///     network.length() < 16
+    /// });
+    /// assert!(routes.into_iter().map(|(_, value)| value).eq([10, 30]));
+    /// ```
+    pub fn retain(&mut self, mut keeps: impl FnMut(&Network, &mut V) -> bool) {
+        let mut cursor = Cursor::all();
+        while let Some((network, word)) = cursor.next(self) {
+            // SAFETY: the table is borrowed mutably, and nobody has this value.
+            if !keeps(&network, unsafe { &mut *address(word) }) {
+                self.remove(network);
+            }
+        }
+    }
+
+    /// The place of a network, with its route or without one, as `entry` of std's maps.
+    ///
+    /// ```
+    /// use verified_art::RouteTable;
+    ///
+    /// let mut hits = RouteTable::new();
+    /// for text in ["10.0.0.0/8", "10.1.0.0/16", "10.0.0.0/8"] {
+    ///     *hits.entry(text.parse().unwrap()).or_insert(0) += 1;
+    /// }
+    /// assert_eq!(hits.get("10.0.0.0/8".parse().unwrap()), Some(&2));
+    /// ```
+    pub fn entry(&mut self, network: Network) -> Entry<'_, V> {
+        match self.word(network) {
+            Some(word) => Entry::Occupied(OccupiedEntry { table: self, network, word }),
+            None => Entry::Vacant(VacantEntry { table: self, network }),
+        }
+    }
+
+    /// Adds a route to a network that has none, and returns the word of its value.
+    pub(crate) fn add(&mut self, network: Network, value: V) -> u64 {
+        let ((octets, width), word, mut before) = (network.octets(), self.values.add(value), 0);
+        let status = unsafe {
+            raw::art_routes_insert(&mut self.raw, octets.as_ptr(), width, network.length(), word, &mut before)
+        };
+        // SAFETY: where it is refused, the table does not have the word.
+        granted(found(status).inspect_err(|_| drop(unsafe { self.values.take(word) })));
+        word
+    }
+
     // Writes the lengths and the words of the routes around a network, the longest first. Returns how many.
-    fn around(&self, network: Network, lengths: &mut [u8], words: &mut [u64]) -> usize {
+    pub(crate) fn around(&self, network: Network, lengths: &mut [u8], words: &mut [u64]) -> usize {
         let ((octets, width), mut count) = (network.octets(), 0);
         let status = unsafe {
             raw::art_routes_covering(
@@ -194,7 +245,7 @@ impl<V> RouteTable<V> {
                 &mut count,
             )
         };
-        granted(found(status));
+        debug_assert_eq!(status, raw::NONE);
         count
     }
 
@@ -232,46 +283,92 @@ impl<V> RouteTable<V> {
             raw::art_routes_parent(&mut self.own(), octets.as_ptr(), width, network.length(), &mut length, &mut word)
         };
         // SAFETY: the table is borrowed as long.
-        granted(found(status)).then(|| (network.around(length), unsafe { &*address(word) }))
+        is_some(status).then(|| (network.around(length), unsafe { &*address(word) }))
     }
 
     /// The routes that contain an address, or cover a network, from the shortest to the longest.
     pub fn cover(&self, network: Network) -> Cover<'_, V> {
-        let mut cover =
-            Cover { network, lengths: [0; MOST_AROUND], words: [0; MOST_AROUND], left: 0, values: PhantomData };
-        cover.left = self.around(cover.network, &mut cover.lengths, &mut cover.words);
-        cover
+        Cover::of(self, network)
     }
 
     /// The route to a network and those to its parts, in order.
     pub fn children(&self, network: Network) -> Iter<'_, V> {
-        Iter { table: self, cursor: Cursor::within(network) }
+        Iter::new(self, Cursor::within(network))
     }
 
     /// The routes to parts of a network with none between, in order: those of which it is the [`parent`](Self::parent), or
     /// would be if it had a route. Each takes one call, however many routes are inside it.
-    pub fn direct_children(&self, network: Network) -> Iter<'_, V> {
-        Iter { table: self, cursor: Cursor::directly_within(network) }
+    pub fn direct_children(&self, network: Network) -> DirectChildren<'_, V> {
+        DirectChildren::new(self, network)
+    }
+
+    /// The free networks of a length inside a network, in order: none of them is a network that has a route, or a part of one,
+    /// or has one inside. None where the length is less than that of the network, or above the bits of its addresses. Those
+    /// inside a route are passed at once.
+    ///
+    /// ```
+    /// use verified_art::RouteTable;
+    ///
+    /// let mut taken = RouteTable::new();
+    /// taken.insert("10.0.0.0/10".parse().unwrap(), "office");
+    /// taken.insert("10.64.3.0/24".parse().unwrap(), "lab");
+    /// let mut free = taken.free("10.0.0.0/8".parse().unwrap(), 16);
+    /// assert_eq!(free.next(), Some("10.65.0.0/16".parse().unwrap()));
+    /// assert_eq!(free.count(), 190);
+    /// ```
+    pub fn free(&self, network: Network, length: u8) -> Free<'_, V> {
+        Free::new(self, network, length)
     }
 
     /// All routes, in order.
     pub fn iter(&self) -> Iter<'_, V> {
-        Iter { table: self, cursor: Cursor::all() }
+        Iter::new(self, Cursor::all())
     }
 
     /// The same, with values that can be changed.
     pub fn iter_mut(&mut self) -> IterMut<'_, V> {
-        IterMut { table: self, cursor: Cursor::all() }
+        IterMut::new(self, Cursor::all())
     }
 
     /// All networks, in order.
-    pub fn keys(&self) -> impl Iterator<Item = Network> + '_ {
+    pub fn keys(&self) -> impl DoubleEndedIterator<Item = Network> + '_ {
         self.iter().map(|(network, _)| network)
     }
 
     /// All values, in the order of their networks.
-    pub fn values(&self) -> impl Iterator<Item = &V> {
+    pub fn values(&self) -> impl DoubleEndedIterator<Item = &V> {
         self.iter().map(|(_, value)| value)
+    }
+
+    /// The same, to be changed.
+    pub fn values_mut(&mut self) -> impl DoubleEndedIterator<Item = &mut V> {
+        self.iter_mut().map(|(_, value)| value)
+    }
+
+    /// The values themselves, in the order of their networks.
+    pub fn into_values(self) -> impl DoubleEndedIterator<Item = V> + ExactSizeIterator {
+        self.into_iter().map(|(_, value)| value)
+    }
+}
+
+impl<V: PartialEq> RouteTable<V> {
+    /// The changes that make this table the new one, in the order of their networks.
+    ///
+    /// ```
+    /// use verified_art::{Change, RouteTable};
+    ///
+    /// let [eight, nine, ten] = ["10.0.0.0/8", "10.0.0.0/9", "::/10"].map(|text| text.parse().unwrap());
+    /// let old = RouteTable::from([(eight, "core1"), (nine, "core2"), (ten, "core3")]);
+    /// let new = RouteTable::from([(eight, "core1"), (nine, "edge"), ("::/0".parse().unwrap(), "core3")]);
+    /// let changes = [
+    ///     Change::Replace(nine, &"edge"),
+    ///     Change::Insert("::/0".parse().unwrap(), &"core3"),
+    ///     Change::Remove(ten, &"core3"),
+    /// ];
+    /// assert!(old.difference(&new).eq(changes));
+    /// ```
+    pub fn difference<'a>(&'a self, new: &'a Self) -> Differences<'a, V> {
+        Differences::new(self, new)
     }
 }
 
@@ -320,119 +417,6 @@ impl<V: Clone + Eq + Hash> RouteTable<V> {
         Ok(fewer)
     }
 }
-
-/// A place among the routes: the first one at a network, or after it.
-struct Cursor {
-    from: Option<(Network, bool)>,
-    within: Option<Network>,
-    // Whether to go on behind the parts of a network.
-    skips_parts: bool,
-}
-
-impl Cursor {
-    fn all() -> Self {
-        let first = Network::truncated([0; 4], 0).expect("0.0.0.0/0 is a network");
-        Cursor { from: Some((first, true)), within: None, skips_parts: false }
-    }
-
-    fn within(network: Network) -> Self {
-        Cursor { from: Some((network, true)), within: Some(network), skips_parts: false }
-    }
-
-    fn directly_within(network: Network) -> Self {
-        Cursor { from: Some((network, false)), within: Some(network), skips_parts: true }
-    }
-
-    // The route at the cursor, which moves behind it.
-    fn next<V>(&mut self, table: &RouteTable<V>) -> Option<(Network, u64)> {
-        let (from, inclusive) = self.from.take()?;
-        let ((octets, from_width), mut out) = (from.octets(), [0; 16]);
-        let (mut width, mut length, mut word) = (0, 0, 0);
-        let status = unsafe {
-            raw::art_routes_next(
-                &mut table.own(),
-                octets.as_ptr(),
-                from_width,
-                from.length(),
-                inclusive,
-                out.as_mut_ptr(),
-                out.len(),
-                &mut width,
-                &mut length,
-                &mut word,
-            )
-        };
-        if !granted(found(status)) {
-            return None;
-        }
-        let network = Network::of_octets(&out, width, length);
-        if self.within.is_some_and(|within| !within.covers(&network)) {
-            return None;
-        }
-        self.from = Some((if self.skips_parts { network.last() } else { network }, false));
-        Some((network, word))
-    }
-}
-
-/// Routes of a table, in order.
-pub struct Iter<'a, V> {
-    table: &'a RouteTable<V>,
-    cursor: Cursor,
-}
-
-impl<'a, V> Iterator for Iter<'a, V> {
-    type Item = (Network, &'a V);
-
-    fn next(&mut self) -> Option<Self::Item> {
-        // SAFETY: the table is borrowed as long.
-        self.cursor.next(self.table).map(|(network, word)| (network, unsafe { &*address(word) }))
-    }
-}
-
-impl<V> FusedIterator for Iter<'_, V> {}
-
-/// Routes of a table, in order, with values that can be changed.
-pub struct IterMut<'a, V> {
-    table: &'a mut RouteTable<V>,
-    cursor: Cursor,
-}
-
-impl<'a, V> Iterator for IterMut<'a, V> {
-    type Item = (Network, &'a mut V);
-
-    fn next(&mut self) -> Option<Self::Item> {
-        // SAFETY: the table is borrowed as long, and a cursor gives each value once.
-        self.cursor.next(self.table).map(|(network, word)| (network, unsafe { &mut *address(word) }))
-    }
-}
-
-impl<V> FusedIterator for IterMut<'_, V> {}
-
-/// The routes of a table that cover a network, from the shortest to the longest.
-pub struct Cover<'a, V> {
-    network: Network,
-    lengths: [u8; MOST_AROUND],
-    words: [u64; MOST_AROUND],
-    left: usize,
-    values: PhantomData<&'a V>,
-}
-
-impl<'a, V> Iterator for Cover<'a, V> {
-    type Item = (Network, &'a V);
-
-    fn next(&mut self) -> Option<Self::Item> {
-        self.left = self.left.checked_sub(1)?;
-        // SAFETY: the table is borrowed as long.
-        Some((self.network.around(self.lengths[self.left]), unsafe { &*address(self.words[self.left]) }))
-    }
-
-    fn size_hint(&self) -> (usize, Option<usize>) {
-        (self.left, Some(self.left))
-    }
-}
-
-impl<V> ExactSizeIterator for Cover<'_, V> {}
-impl<V> FusedIterator for Cover<'_, V> {}
 
 impl<V> Drop for RouteTable<V> {
     fn drop(&mut self) {
@@ -503,5 +487,23 @@ impl<'a, V> IntoIterator for &'a RouteTable<V> {
 
     fn into_iter(self) -> Iter<'a, V> {
         self.iter()
+    }
+}
+
+impl<'a, V> IntoIterator for &'a mut RouteTable<V> {
+    type Item = (Network, &'a mut V);
+    type IntoIter = IterMut<'a, V>;
+
+    fn into_iter(self) -> IterMut<'a, V> {
+        self.iter_mut()
+    }
+}
+
+impl<V> IntoIterator for RouteTable<V> {
+    type Item = (Network, V);
+    type IntoIter = IntoIter<V>;
+
+    fn into_iter(self) -> IntoIter<V> {
+        IntoIter::new(self)
     }
 }

@@ -16,11 +16,12 @@ use std::ops::Bound;
 
 /// An ordered map from keys of type `K` to values of 64 bits, with the names of `BTreeMap`.
 ///
-/// Keys and values are copied in and out. A call that must write memory which cannot be had, or a key
-/// that is too long, is refused, and the map is then as it was: the calls named `try_` return the
-/// [`Refusal`], all others panic. What goes entry by entry keeps what it did before: `extend`, `retain`, `extract_if`, and
-/// [`append`](Self::append) of byte strings. In a [`ByteMap`] also `get` and a step of an iterator may need memory, for a key
-/// of more than 256 bytes.
+/// Keys and values are copied in and out.
+///
+/// Only an empty map and a key that is not there take memory of the library. Where that is refused, or the key is too long,
+/// the map is as it was: `try_new`, [`try_put`](Self::try_put) and `from_ascending` return the [`Refusal`], all others panic;
+/// `extend` and [`append`](Self::append) keep what they did until then. Look-ups, iterators, removals and values of keys that
+/// are there are never refused.
 ///
 /// It is `Send` and `Sync`: calls that only look write nothing behind the handle.
 ///
@@ -89,8 +90,8 @@ impl<K: Key> WordMap<K> {
         Ok(WordMap { raw, keys: PhantomData })
     }
 
-    /// A map of entries whose keys ascend, each above the one before. It then lies in memory as after
-    /// [`compact`](Self::compact), and is made much faster than by inserts. The entries are gathered first.
+    /// A map of entries whose keys ascend, each above the one before: made much faster than by inserts. The entries are
+    /// gathered first.
     ///
     /// Refused with [`Refusal::NotAscending`], for a key that is too long, or for memory, the first of these.
     /// To `collect` entries does the same where their keys ascend, and inserts them one after another where not.
@@ -129,30 +130,9 @@ impl<K: Key> WordMap<K> {
         self.len() == 0
     }
 
-    /// Removes all entries. Keeps the memory, and takes none.
+    /// Removes all entries. Takes no memory.
     pub fn clear(&mut self) {
         unsafe { K::clear(&mut self.raw) }
-    }
-
-    /// Reserves memory for more entries, but for their keys.
-    pub fn reserve(&mut self, additional: usize) {
-        granted(self.try_reserve(additional))
-    }
-
-    /// The same, where memory is found.
-    pub fn try_reserve(&mut self, additional: usize) -> Result<(), Refusal> {
-        found(unsafe { K::reserve(&mut self.raw, additional) }).map(drop)
-    }
-
-    /// Moves the entries into memory that just holds them, in the order of their keys: iteration is then
-    /// faster. Takes memory for the map twice while it runs, and for its entries once more.
-    pub fn compact(&mut self) {
-        granted(self.try_compact())
-    }
-
-    /// The same, where memory is found.
-    pub fn try_compact(&mut self) -> Result<(), Refusal> {
-        found(unsafe { K::compact(&mut self.raw) }).map(drop)
     }
 
     /// Sets the value of a key, and returns the one that it had.
@@ -173,18 +153,11 @@ impl<K: Key> WordMap<K> {
 
     /// The value of a key.
     pub fn get(&self, key: impl AsKey<K>) -> Option<u64> {
-        granted(self.try_get(key))
-    }
-
-    /// The same, where memory for the key is found.
-    pub fn try_get(&self, key: impl AsKey<K>) -> Result<Option<u64>, Refusal> {
         self.look(key.as_key())
     }
 
-    pub(crate) fn look(&self, key: &K::Sought) -> Result<Option<u64>, Refusal> {
-        let mut value = 0;
-        let status = unsafe { K::get(&mut self.own(), key, &mut value) };
-        Ok(found(status)?.then_some(value))
+    pub(crate) fn look(&self, key: &K::Sought) -> Option<u64> {
+        unsafe { K::get(&mut self.own(), key) }
     }
 
     /// The value of a key, to be changed: it is written to the map when the guard is dropped.
@@ -196,14 +169,14 @@ impl<K: Key> WordMap<K> {
     /// ```
     pub fn get_mut(&mut self, key: impl AsKey<K>) -> Option<ValueMut<'_, K>> {
         let key = key.as_key();
-        let value = granted(self.look(key))?;
+        let value = self.look(key)?;
         Some(ValueMut::new(Lent::new(self), key.to_owned(), value))
     }
 
     /// The key, as the map has it, and its value.
     pub fn get_key_value(&self, key: impl AsKey<K>) -> Option<(K, u64)> {
         let sought = key.as_key();
-        granted(self.look(sought)).map(|value| (sought.to_owned(), value))
+        self.look(sought).map(|value| (sought.to_owned(), value))
     }
 
     /// Whether there is an entry with this key.
@@ -222,7 +195,7 @@ impl<K: Key> WordMap<K> {
     /// ```
     pub fn entry(&mut self, key: impl AsKey<K>) -> WordEntry<'_, K> {
         let key = key.as_key().to_owned();
-        match granted(self.look(key.sought())) {
+        match self.look(key.sought()) {
             Some(value) => WordEntry::Occupied(OccupiedWord { map: self, key, value }),
             None => WordEntry::Vacant(VacantWord { map: self, key }),
         }
@@ -240,53 +213,39 @@ impl<K: Key> WordMap<K> {
 
     /// Removes a key, and returns its value.
     pub fn remove(&mut self, key: impl AsKey<K>) -> Option<u64> {
-        granted(self.try_remove(key))
-    }
-
-    /// The same, where memory is found.
-    pub fn try_remove(&mut self, key: impl AsKey<K>) -> Result<Option<u64>, Refusal> {
         self.take(key.as_key())
     }
 
     /// Removes a key, and returns it with its value.
     pub fn remove_entry(&mut self, key: impl AsKey<K>) -> Option<(K, u64)> {
         let sought = key.as_key();
-        granted(self.take(sought)).map(|value| (sought.to_owned(), value))
+        self.take(sought).map(|value| (sought.to_owned(), value))
     }
 
-    pub(crate) fn take(&mut self, key: &K::Sought) -> Result<Option<u64>, Refusal> {
-        let mut value = 0;
-        let status = unsafe { K::remove(&mut self.raw, key, &mut value) };
-        Ok(found(status)?.then_some(value))
+    pub(crate) fn take(&mut self, key: &K::Sought) -> Option<u64> {
+        unsafe { K::remove(&mut self.raw, key) }
     }
 
-    pub(crate) fn find(&self, which: Find) -> Result<Option<(K, u64)>, Refusal> {
+    pub(crate) fn find(&self, which: Find) -> Option<(K, u64)> {
         unsafe { K::find(&mut self.own(), which) }
     }
 
     fn pop(&mut self, which: Find) -> Option<(K, u64)> {
-        granted(unsafe { K::find(&mut self.raw, which) })
+        unsafe { K::find(&mut self.raw, which) }
     }
 
-    pub(crate) fn fetch(
-        &self,
-        toward: Toward,
-        from: &K,
-        inclusive: bool,
-        most: usize,
-        into: &mut VecDeque<(K, u64)>,
-    ) -> Result<(), Refusal> {
+    pub(crate) fn fetch(&self, toward: Toward, from: &K, inclusive: bool, most: usize, into: &mut VecDeque<(K, u64)>) {
         unsafe { K::fetch(&mut self.own(), toward, from.sought(), inclusive, most, into) }
     }
 
     /// The entry with the least key.
     pub fn first_key_value(&self) -> Option<(K, u64)> {
-        granted(self.find(Find::First))
+        self.find(Find::First)
     }
 
     /// The entry with the greatest key.
     pub fn last_key_value(&self) -> Option<(K, u64)> {
-        granted(self.find(Find::Last))
+        self.find(Find::Last)
     }
 
     /// Removes the entry with the least key.
@@ -299,48 +258,29 @@ impl<K: Key> WordMap<K> {
         self.pop(Find::PopLast)
     }
 
-    /// Moves all entries of another map into this one, where they replace those with the same keys.
-    ///
-    /// Where memory is refused nothing moves, unless it is for a key of a [`ByteMap`]: the entries before it have then moved,
-    /// and the others are where they were. Both maps [`reserve`](Self::reserve) memory for as many entries.
+    /// Moves all entries of another map into this one, where they replace those with the same keys. Where memory is refused,
+    /// the entries before have moved, and the others are where they were.
     pub fn append(&mut self, other: &mut Self) {
         if self.is_empty() {
             return mem::swap(self, other);
         }
-        self.append_words(other, |_, _| ());
-    }
-
-    /// The same, and tells each value that has moved, and the one that it replaces.
-    pub(crate) fn append_words(&mut self, other: &mut Self, mut moved: impl FnMut(u64, Option<u64>)) {
-        // From here on nothing takes memory but for a key, and a removal takes none.
-        self.reserve(other.len());
-        other.reserve(other.len());
-        while let Some((key, value)) = granted(other.find(Find::First)) {
-            let before = granted(self.put(key.sought(), value));
+        while let Some((key, value)) = other.find(Find::First) {
+            granted(self.put(key.sought(), value));
             other.pop_first();
-            moved(value, before);
         }
     }
 
     /// Moves the entries from a key on into a map of their own, as [`from_ascending`](Self::from_ascending) makes it. Where
     /// memory is refused, nothing moves.
     pub fn split_off(&mut self, key: impl AsKey<K>) -> Self {
-        self.split_words(key).0
-    }
-
-    /// The same, and the values that have moved.
-    pub(crate) fn split_words(&mut self, key: impl AsKey<K>) -> (Self, Vec<u64>) {
         let cursor = Cursor::new(((key.as_key().to_owned(), true), Bound::Unbounded));
-        let many = many_of(Range::new(self, cursor));
-        let split = granted(Self::loaded(&many));
-        // The removals are then not refused, which would leave values in both maps.
-        self.reserve(split.len());
+        let split = granted(Self::loaded(&many_of(Range::new(self, cursor))));
         (0..split.len()).for_each(|_| drop(self.pop_last()));
-        (split, many.into_values())
+        split
     }
 
-    /// Removes the entries that a closure does not keep. It may change their values. Where it panics, or memory is refused,
-    /// the entries from there on stay.
+    /// Removes the entries that a closure does not keep. It may change their values. Where it panics, the entries from there
+    /// on stay.
     pub fn retain(&mut self, mut keeps: impl FnMut(&K, &mut u64) -> bool) {
         self.extract_if(.., |key, value| !keeps(key, value)).for_each(drop);
     }
@@ -421,8 +361,7 @@ impl WordMap<Vec<u8>> {
     pub fn count_prefix(&self, prefix: impl AsRef<[u8]>) -> usize {
         let prefix = prefix.as_ref();
         // SAFETY: as for the calls of `raw`.
-        let count = unsafe { raw::art_bytes_count_prefix(&mut self.own(), prefix.as_ptr(), prefix.len()) };
-        granted(if count == raw::NO_COUNT { Err(Refusal::OutOfMemory) } else { Ok(count) })
+        unsafe { raw::art_bytes_count_prefix(&mut self.own(), prefix.as_ptr(), prefix.len()) }
     }
 }
 

@@ -78,8 +78,8 @@ fn a_map_shows_its_entries() {
 
 #[test]
 fn values_are_changed_in_place() {
-    let mut map: Map<Vec<u64>, u64> = (0..100u64).map(|key| (key, vec![key])).collect();
-    for (key, value) in map.range_mut(10..20u64) {
+    let mut map: Map<u64, Vec<u64>> = (0..100u64).map(|key| (key, vec![key])).collect();
+    for (key, value) in map.range_mut(10..20) {
         value.push(key * key);
     }
     for value in map.values_mut().rev().take(3) {
@@ -89,15 +89,15 @@ fn values_are_changed_in_place() {
     assert_eq!(map[&20], [20]);
     assert!(map[&99].is_empty() && map[&97].is_empty() && !map[&96].is_empty());
     for (key, value) in &mut map {
-        *value = vec![key];
+        *value = vec![*key];
     }
     assert!(map.values().zip(0..).all(|(value, key)| *value == [key]));
 }
 
 #[test]
-#[should_panic(expected = "no entry has this key")]
+#[should_panic(expected = "no entry found for key")]
 fn the_index_of_an_absent_key_panics() {
-    let _ = Map::<u32>::from([("tin", 50)])["gold"];
+    let _ = Map::from([("tin", 50)])["gold"];
 }
 
 #[test]

@@ -22,7 +22,7 @@ impl Drop for Counted<'_> {
     }
 }
 
-fn filled(drops: &Cell<u32>, count: u64) -> Map<Counted<'_>, u64> {
+fn filled(drops: &Cell<u32>, count: u64) -> Map<u64, Counted<'_>> {
     (0..count).map(|key| (key, Counted { drops, panics: false })).collect()
 }
 
@@ -39,7 +39,7 @@ fn clear_drops_all_values_and_leaves_a_map() {
     let mut map = filled(&drops, 100);
     map.clear();
     assert_eq!((drops.get(), map.len()), (100, 0));
-    map.insert(5u64, Counted { drops: &drops, panics: false });
+    map.insert(5, Counted { drops: &drops, panics: false });
     drop(map);
     assert_eq!(drops.get(), 101);
 }
@@ -48,15 +48,15 @@ fn clear_drops_all_values_and_leaves_a_map() {
 fn what_is_replaced_or_removed_is_dropped_by_the_caller() {
     let drops = Cell::new(0);
     let mut map = filled(&drops, 10);
-    let before = map.insert(3u64, Counted { drops: &drops, panics: false });
+    let before = map.insert(3, Counted { drops: &drops, panics: false });
     assert_eq!(drops.get(), 0);
     drop(before);
     assert_eq!(drops.get(), 1);
-    let removed = (map.remove(4u64), map.pop_first(), map.pop_last());
+    let removed = (map.remove(&4), map.pop_first(), map.pop_last());
     assert_eq!(drops.get(), 1);
     drop(removed);
     assert_eq!(drops.get(), 4);
-    assert!(map.remove(4u64).is_none());
+    assert!(map.remove(&4).is_none());
     drop(map);
     assert_eq!(drops.get(), 11);
 }
@@ -78,15 +78,15 @@ fn an_iterator_by_value_drops_what_it_does_not_give() {
 fn a_drop_that_panics_leaves_the_others_to_be_dropped() {
     let drops = Cell::new(0);
     let mut map = filled(&drops, 200);
-    map.insert(70u64, Counted { drops: &drops, panics: true });
+    map.insert(70, Counted { drops: &drops, panics: true });
     assert_eq!(drops.get(), 1);
     assert!(catch_unwind(AssertUnwindSafe(move || drop(map))).is_err());
     assert_eq!(drops.get(), 201);
     let mut map = filled(&drops, 200);
-    drop(map.insert(70u64, Counted { drops: &drops, panics: true }));
+    drop(map.insert(70, Counted { drops: &drops, panics: true }));
     assert!(catch_unwind(AssertUnwindSafe(|| map.clear())).is_err());
     assert_eq!((drops.get(), map.len(), map.iter().count()), (402, 0, 0));
-    map.insert(5u64, Counted { drops: &drops, panics: false });
+    map.insert(5, Counted { drops: &drops, panics: false });
     drop(map);
     assert_eq!(drops.get(), 403);
 }
@@ -94,7 +94,7 @@ fn a_drop_that_panics_leaves_the_others_to_be_dropped() {
 #[test]
 fn clones_of_values_are_dropped_with_the_clone() {
     let value = Rc::new(());
-    let map: Map<Rc<()>> = ["tin", "gold", ""].into_iter().map(|key| (key, value.clone())).collect();
+    let map: Map<&str, Rc<()>> = ["tin", "gold", ""].into_iter().map(|key| (key, value.clone())).collect();
     let copy = map.clone();
     assert_eq!(Rc::strong_count(&value), 7);
     drop(map);
@@ -126,12 +126,12 @@ fn ascending_entries_are_dropped_where_no_map_is_made_of_them() {
 fn random_calls_lose_no_value() {
     let value = Rc::new(());
     let mut random = Random(3);
-    let mut map = Map::<Rc<()>>::new();
+    let mut map = Map::<Vec<u8>, Rc<()>>::new();
     for _ in 0..100_000 {
         let key = random.bytes();
         match random.below(8) {
             0..=4 => drop(map.insert(key, value.clone())),
-            5..=6 => drop(map.remove(key)),
+            5..=6 => drop(map.remove(&key)),
             _ if random.below(2000) == 0 => map.clear(),
             _ => drop(map.pop_last()),
         }
@@ -141,7 +141,7 @@ fn random_calls_lose_no_value() {
 
 #[test]
 fn values_without_a_size_are_counted_too() {
-    let mut map: Map<()> = [("a", ()), ("b", ())].into();
+    let mut map: Map<&str, ()> = [("a", ()), ("b", ())].into();
     assert_eq!(map.insert("a", ()), Some(()));
     assert_eq!((map.len(), map.remove("b"), map.remove("b")), (2, Some(()), None));
 }
@@ -152,7 +152,7 @@ fn calls_that_move_many_entries_drop_each_value_once() {
     let (mut map, mut other) = (filled(&drops, 50), filled(&drops, 30));
     map.append(&mut other);
     assert_eq!((drops.get(), map.len(), other.len()), (30, 50, 0));
-    let split = map.split_off(40u64);
+    let split = map.split_off(&40);
     assert_eq!((drops.get(), map.len(), split.len()), (30, 40, 10));
     drop(split);
     assert_eq!(drops.get(), 40);
@@ -174,9 +174,9 @@ fn entries_drop_what_they_replace() {
     let drops = Cell::new(0);
     let counted = || Counted { drops: &drops, panics: false };
     let mut map = filled(&drops, 3);
-    map.entry(1u64).or_insert(counted());
+    map.entry(1).or_insert(counted());
     assert_eq!((drops.get(), map.len()), (1, 3));
-    map.entry(7u64).or_insert_with(counted);
+    map.entry(7).or_insert_with(counted);
     assert_eq!((drops.get(), map.len()), (1, 4));
     drop(map.first_entry().map(|mut entry| entry.insert(counted())));
     assert_eq!((drops.get(), map.len()), (2, 4));

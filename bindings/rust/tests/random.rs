@@ -1,48 +1,12 @@
 //! A million random calls of each map beside `BTreeMap`: what each returns, and the entries at the end.
 mod common;
 
-use common::{change_both, Random};
+use common::{change_both, is_range, walk_both, Random};
 use std::collections::BTreeMap;
 use std::fmt::Debug;
-use std::ops::Bound;
-use verified_art::{AsKey, ByteMap, Key, Map, WordMap};
+use verified_art::{AsKey, ByteMap, Key, WordMap};
 
 const CALLS: u32 = 1_000_000;
-
-fn bound<K>(random: &mut Random, key: K) -> Bound<K> {
-    match random.below(3) {
-        0 => Bound::Included(key),
-        1 => Bound::Excluded(key),
-        _ => Bound::Unbounded,
-    }
-}
-
-/// Whether `BTreeMap::range` takes these bounds, and does not panic.
-fn is_range<K: Ord>(start: &Bound<K>, end: &Bound<K>) -> bool {
-    match (start, end) {
-        (Bound::Unbounded, _) | (_, Bound::Unbounded) => true,
-        (Bound::Excluded(start), Bound::Excluded(end)) => start < end,
-        (Bound::Included(start) | Bound::Excluded(start), Bound::Included(end) | Bound::Excluded(end)) => start <= end,
-    }
-}
-
-/// Takes up to `most` items of two iterators, each time from a random end, and compares them.
-fn walk_both<T: PartialEq + Debug>(
-    random: &mut Random,
-    most: u64,
-    mut ours: impl DoubleEndedIterator<Item = T>,
-    mut theirs: impl DoubleEndedIterator<Item = T>,
-) {
-    let both_ends = random.coin();
-    for _ in 0..most {
-        let back = both_ends && random.coin();
-        let (one, other) = if back { (ours.next_back(), theirs.next_back()) } else { (ours.next(), theirs.next()) };
-        assert_eq!(one, other);
-        if one.is_none() {
-            break;
-        }
-    }
-}
 
 fn same_calls<K: Key + AsKey<K> + Debug>(seed: u64, any_key: impl Fn(&mut Random) -> K)
 where
@@ -74,7 +38,7 @@ where
             },
             _ => {
                 let other = any_key(&mut random);
-                let (start, end) = (bound(&mut random, key), bound(&mut random, other));
+                let (start, end) = (random.bound(key), random.bound(other));
                 let most = random.below(40);
                 if is_range(&start, &end) && random.coin() {
                     let theirs = model.range_mut((start.clone(), end.clone()));
@@ -90,14 +54,9 @@ where
             }
         }
         assert_eq!(map.len(), model.len());
-        match random.below(100_000) {
-            0 => {
-                map.clear();
-                model.clear();
-                map.reserve(random.below(1000) as usize);
-            }
-            1 => map.compact(),
-            _ => (),
+        if random.below(100_000) == 0 {
+            map.clear();
+            model.clear();
         }
     }
     walk_both(&mut random, u64::MAX, map.iter(), model.iter().map(|(key, value)| (key.clone(), *value)));
@@ -136,47 +95,4 @@ fn prefixes_have_the_entries_that_a_scan_finds() {
         assert!(map.prefix(&prefix).eq(due.iter().cloned()));
         assert!(map.prefix(&prefix).rev().eq(due.into_iter().rev()));
     }
-}
-
-#[test]
-fn maps_of_any_values_do_what_a_btree_map_does() {
-    let mut random = Random(99);
-    let mut map = Map::<String>::new();
-    let mut model = BTreeMap::<Vec<u8>, String>::new();
-    for _ in 0..CALLS {
-        let key = random.bytes();
-        match random.below(10) {
-            0..=3 => {
-                let value = random.next().to_string();
-                assert_eq!(map.insert(&key, value.clone()), model.insert(key, value));
-            }
-            4 => assert_eq!(map.get(&key), model.get(&key)),
-            5 => {
-                let (ours, theirs) = (map.get_mut(&key), model.get_mut(&key));
-                assert_eq!(ours, theirs);
-                if let (Some(ours), Some(theirs)) = (ours, theirs) {
-                    ours.push('!');
-                    theirs.push('!');
-                }
-            }
-            6..=7 => assert_eq!(map.remove(&key), model.remove(&key)),
-            8 => match random.below(20) {
-                0 => assert_eq!(map.pop_first(), model.pop_first()),
-                1 => assert_eq!(map.pop_last(), model.pop_last()),
-                _ => assert_eq!(map.last_key_value(), model.last_key_value().map(|(key, value)| (key.clone(), value))),
-            },
-            _ => {
-                let most = random.below(10);
-                let theirs = model.range(key.clone()..).map(|(key, value)| (key.clone(), value));
-                walk_both(&mut random, most, map.range(key.as_slice()..), theirs);
-            }
-        }
-        assert_eq!(map.len(), model.len());
-    }
-    for (ours, theirs) in map.values_mut().zip(model.values_mut()) {
-        assert_eq!(ours, theirs);
-        ours.clear();
-        theirs.clear();
-    }
-    assert!(map.into_iter().eq(model));
 }

@@ -2,133 +2,20 @@
 //! is lost, none is twice, and each value is dropped once. `clear` and drops need none, of Rust's memory neither.
 #![cfg(all(target_os = "linux", target_env = "gnu"))]
 
-use std::alloc::{GlobalAlloc, Layout};
-use std::cell::Cell;
+#[path = "common/memory.rs"]
+mod memory;
+
+use memory::{each_refused, granted, without_memory, Counted, ASKED_BY_RUST, LIVE};
 use std::collections::BTreeMap;
 use std::fmt::Debug;
-use std::panic::{catch_unwind, AssertUnwindSafe};
-use std::ptr;
-use verified_art::{AsKey, Key, Map, Network, RouteTable, WordMap};
+use verified_art::map::Entry;
+use verified_art::{AsKey, Key, Map, MapKey, Network, RouteTable, WordMap};
 
-extern "C" {
-    fn __libc_malloc(size: usize) -> *mut u8;
-    fn __libc_memalign(align: usize, size: usize) -> *mut u8;
-    fn __libc_realloc(block: *mut u8, size: usize) -> *mut u8;
-    fn __libc_free(block: *mut u8);
-}
-
-thread_local! {
-    /// How many more allocations the library is granted.
-    static LEFT: Cell<u64> = const { Cell::new(u64::MAX) };
-    /// How many allocations the library and Rust have asked for.
-    static ASKED: Cell<u64> = const { Cell::new(0) };
-    /// How many values there are.
-    static LIVE: Cell<usize> = const { Cell::new(0) };
-}
-
-fn refuses() -> bool {
-    ASKED.set(ASKED.get() + 1);
-    let left = LEFT.get();
-    LEFT.set(left.saturating_sub(u64::from(left < u64::MAX)));
-    left == 0
-}
-
-/// In place of those of C, which the library calls.
-#[no_mangle]
-extern "C" fn malloc(size: usize) -> *mut u8 {
-    // SAFETY: what C asks of callers of this one.
-    if refuses() {
-        ptr::null_mut()
-    } else {
-        unsafe { __libc_malloc(size) }
-    }
-}
-
-/// # Safety
-///
-/// What C asks.
-#[no_mangle]
-unsafe extern "C" fn realloc(block: *mut u8, size: usize) -> *mut u8 {
-    if refuses() {
-        ptr::null_mut()
-    } else {
-        __libc_realloc(block, size)
-    }
-}
-
-/// The memory of Rust, which is never refused.
-struct Granted;
-
-// SAFETY: as of C.
-unsafe impl GlobalAlloc for Granted {
-    unsafe fn alloc(&self, layout: Layout) -> *mut u8 {
-        ASKED.set(ASKED.get() + 1);
-        __libc_memalign(layout.align(), layout.size())
-    }
-
-    unsafe fn dealloc(&self, block: *mut u8, _: Layout) {
-        __libc_free(block)
-    }
-}
-
-#[global_allocator]
-static GRANTED: Granted = Granted;
-
-/// Makes a call which is granted so many allocations. None where it panics.
-fn granted<T>(allocations: u64, call: impl FnOnce() -> T) -> Option<T> {
-    LEFT.set(allocations);
-    let result = catch_unwind(AssertUnwindSafe(call));
-    LEFT.set(u64::MAX);
-    result.ok()
-}
-
-/// Makes a call which is granted no allocation, then one and so on, until it is not refused: it says whether it was.
-fn each_refused(mut refused: impl FnMut(u64) -> bool) {
-    let refusals = (0..).take_while(|&allocations| refused(allocations)).count();
-    assert!(refusals > 1, "{refusals} refusals");
-}
-
-/// Makes a call which is refused each allocation, and asks for none.
-fn without_memory<T>(call: impl FnOnce() -> T) -> T {
-    let asked = ASKED.get();
-    let result = granted(0, call).expect("nothing is refused");
-    assert_eq!(ASKED.get(), asked);
-    result
-}
-
-/// A value that counts itself.
-#[derive(Debug)]
-struct Counted(u64);
-
-impl Counted {
-    fn new(label: u64) -> Self {
-        LIVE.set(LIVE.get() + 1);
-        Counted(label)
-    }
-}
-
-impl Clone for Counted {
-    fn clone(&self) -> Self {
-        Self::new(self.0)
-    }
-}
-
-impl Drop for Counted {
-    fn drop(&mut self) {
-        LIVE.set(LIVE.get() - 1);
-    }
-}
-
-trait AnyKey: Key + AsKey<Self> + Debug {
-    /// Whether an insert takes memory for the key itself.
-    const TAKES_MEMORY: bool;
-
+trait AnyKey: Ord + Clone + Debug {
     fn of(number: u64) -> Self;
 }
 
 impl AnyKey for u64 {
-    const TAKES_MEMORY: bool = false;
-
     /// In nodes of all sizes, and in no order.
     fn of(number: u64) -> u64 {
         ((number % 17) << 32) | (number / 17)
@@ -136,9 +23,7 @@ impl AnyKey for u64 {
 }
 
 impl AnyKey for Vec<u8> {
-    const TAKES_MEMORY: bool = true;
-
-    /// Some are of more than 256 bytes, so that a look takes memory too.
+    /// Some are long.
     fn of(number: u64) -> Vec<u8> {
         let mut key = u64::of(number).to_be_bytes().to_vec();
         key.resize(if number % 7 == 6 { 300 } else { 10 }, 0);
@@ -146,11 +31,17 @@ impl AnyKey for Vec<u8> {
     }
 }
 
-/// The maps of words and those of boxes, seen as the same one of std.
+impl AnyKey for (u64, String) {
+    fn of(number: u64) -> Self {
+        (number % 17, (number / 17).to_string())
+    }
+}
+
+/// The maps of words and those of values, seen as the same one of std.
 trait AnyMap<K>: Sized {
     fn of(entries: &BTreeMap<K, u64>) -> Self;
-    /// In memory that just holds the entries, so that removals take some.
-    fn compact(entries: &BTreeMap<K, u64>) -> Self;
+    /// By one call of the library.
+    fn loaded(entries: &BTreeMap<K, u64>) -> Self;
     fn entries(&self) -> BTreeMap<K, u64>;
     fn append(&mut self, other: &mut Self);
     fn split_off(&mut self, key: &K) -> Self;
@@ -164,8 +55,8 @@ trait AnyMap<K>: Sized {
 }
 
 macro_rules! any_map {
-    ($map:ty, $value:expr, $word:expr, $counted:expr) => {
-        impl<K: AnyKey> AnyMap<K> for $map {
+    ($key:path, $map:ty, $ref:expr, $value:expr, $word:expr, $counted:expr) => {
+        impl<K: AnyKey + $key> AnyMap<K> for $map {
             fn of(entries: &BTreeMap<K, u64>) -> Self {
                 let mut map = Self::new();
                 for (key, value) in entries {
@@ -174,14 +65,12 @@ macro_rules! any_map {
                 map
             }
 
-            fn compact(entries: &BTreeMap<K, u64>) -> Self {
-                let mut map = Self::of(entries);
-                map.compact();
-                map
+            fn loaded(entries: &BTreeMap<K, u64>) -> Self {
+                Self::from_ascending(entries.iter().map(|(key, value)| (key.clone(), $value(*value)))).unwrap()
             }
 
             fn entries(&self) -> BTreeMap<K, u64> {
-                self.iter().map(|(key, value)| (key, $word(value))).collect()
+                self.iter().map(|(key, value)| (key.clone(), $word(value))).collect()
             }
 
             fn append(&mut self, other: &mut Self) {
@@ -189,7 +78,7 @@ macro_rules! any_map {
             }
 
             fn split_off(&mut self, key: &K) -> Self {
-                self.split_off(key.clone())
+                self.split_off($ref(key))
             }
 
             fn retain(&mut self, mut keeps: impl FnMut(u64) -> bool) {
@@ -248,8 +137,13 @@ impl Word for &mut Counted {
     }
 }
 
-any_map!(WordMap<K>, |value| value, Word::word, |_| 0);
-any_map!(Map<Counted, K>, Counted::new, Word::word, Map::len);
+any_map!(WordKey, WordMap<K>, K::clone, |value| value, Word::word, |_| 0);
+any_map!(MapKey, Map<K, Counted>, |key| key, Counted::new, Word::word, Map::len);
+
+/// The keys of maps of words.
+trait WordKey: Key + AsKey<Self> {}
+
+impl<K: Key + AsKey<K>> WordKey for K {}
 
 /// Entries of some keys, each with another value.
 fn entries<K: AnyKey>(numbers: std::ops::Range<u64>, more: u64) -> BTreeMap<K, u64> {
@@ -259,15 +153,14 @@ fn entries<K: AnyKey>(numbers: std::ops::Range<u64>, more: u64) -> BTreeMap<K, u
 fn appends<K: AnyKey, M: AnyMap<K>>() {
     let (ones, others) = (entries::<K>(0..80, 0), entries::<K>(40..300, 1000));
     each_refused(|allocations| {
-        let (mut one, mut other) = (M::of(&ones), M::compact(&others));
+        let (mut one, mut other) = (M::of(&ones), M::loaded(&others));
         let refused = granted(allocations, || one.append(&mut other)).is_none();
         // So many of the other one have moved, from the first one on.
         let moved = others.len() - other.entries().len();
         let (mut due, mut rest) = (ones.clone(), others.clone());
         due.extend((0..moved).map(|_| rest.pop_first().unwrap()));
-        assert!(one.entries() == due && other.entries() == rest);
+        assert_eq!((one.entries(), other.entries()), (due, rest));
         assert_eq!(refused, moved < others.len());
-        assert!(K::TAKES_MEMORY || !refused || moved == 0);
         assert_eq!(LIVE.get(), one.counted() + other.counted());
         drop((one, other));
         assert_eq!(LIVE.get(), 0);
@@ -279,14 +172,14 @@ fn splits_off<K: AnyKey, M: AnyMap<K>>() {
     let due = entries::<K>(0..300, 0);
     let middle = due.keys().nth(100).unwrap();
     each_refused(|allocations| {
-        let mut map = M::compact(&due);
+        let mut map = M::loaded(&due);
         let split = granted(allocations, || map.split_off(middle));
         let mut rest = due.clone();
         if let Some(split) = &split {
             assert_eq!(split.entries(), rest.split_off(middle));
         }
-        assert_eq!(map.entries(), rest);
         let refused = split.is_none();
+        assert_eq!(map.entries(), rest);
         assert_eq!(LIVE.get(), map.counted() + split.as_ref().map_or(0, M::counted));
         drop((map, split));
         assert_eq!(LIVE.get(), 0);
@@ -294,28 +187,18 @@ fn splits_off<K: AnyKey, M: AnyMap<K>>() {
     });
 }
 
+/// While all memory of the library is refused, since it needs none.
 fn retains<K: AnyKey, M: AnyMap<K>>() {
-    let due = entries::<K>(0..300, 0);
-    each_refused(|allocations| {
-        let mut map = M::compact(&due);
-        let mut seen = 0;
-        let refused = granted(allocations, || map.retain(|value| (seen += 1, value % 3 == 0).1)).is_none();
-        // That of the last one seen was refused, or the step behind it.
-        let left = |seen: usize| -> BTreeMap<K, u64> {
-            due.clone()
-                .into_iter()
-                .enumerate()
-                .filter(|(at, (_, value))| *at >= seen || value % 3 == 0)
-                .map(|(_, it)| it)
-                .collect()
-        };
-        let kept = map.entries();
-        assert!(kept == left(seen) || refused && kept == left(seen - 1));
-        assert_eq!(LIVE.get(), map.counted());
+    let all = entries::<K>(0..300, 0);
+    let mut due = all.clone();
+    due.retain(|_, value| *value % 3 == 0);
+    for make in [M::of, M::loaded] {
+        let mut map = make(&all);
+        granted(0, || map.retain(|value| value % 3 == 0)).expect("nothing is refused");
+        assert_eq!((map.entries(), LIVE.get()), (due.clone(), map.counted()));
         drop(map);
         assert_eq!(LIVE.get(), 0);
-        refused
-    });
+    }
 }
 
 fn extends<K: AnyKey, M: AnyMap<K>>() {
@@ -363,7 +246,7 @@ fn collects<K: AnyKey, M: AnyMap<K>>() {
 
 fn clears_and_drops<K: AnyKey, M: AnyMap<K>>() {
     let due = entries::<K>(0..300, 0);
-    for make in [M::of, M::compact] {
+    for make in [M::of, M::loaded] {
         let mut map = make(&due);
         without_memory(|| map.clear());
         assert_eq!((LIVE.get(), map.entries()), (0, BTreeMap::new()));
@@ -391,15 +274,138 @@ macro_rules! tests {
             }
 
             #[test]
-            fn of_boxes() {
-                super::$name::<u64, Map<Counted, u64>>();
-                super::$name::<Vec<u8>, Map<Counted, Vec<u8>>>();
+            fn of_values() {
+                super::$name::<u64, Map<u64, Counted>>();
+                super::$name::<Vec<u8>, Map<Vec<u8>, Counted>>();
+                super::$name::<(u64, String), Map<(u64, String), Counted>>();
             }
         })*
     };
 }
 
 tests!(appends, splits_off, retains, extends, collects, clears_and_drops);
+
+/// Each kind of removal while all memory of the library is refused. What is put in again later finds its place.
+fn removes<K: AnyKey + MapKey>() {
+    let all = entries::<K>(0..300, 0);
+    let (mut map, mut due) = (Map::<K, Counted>::loaded(&all), all.clone());
+    let keys: Vec<K> = all.keys().cloned().collect();
+    for turn in 0..6 {
+        granted(0, || {
+            for key in keys.iter().skip(turn).step_by(3).take(60) {
+                assert_eq!(map.remove(key).map(|value| value.0), due.remove(key));
+            }
+            for _ in 0..20 {
+                assert_eq!(map.pop_first().map(|(key, value)| (key, value.0)), due.pop_first());
+                assert_eq!(map.pop_last().map(|(_, value)| value.0), due.pop_last().map(|(_, value)| value));
+                assert_eq!(map.last_entry().map(|entry| entry.remove().0), due.pop_last().map(|(_, value)| value));
+                assert_eq!(map.first_key_value().map(|(key, _)| key), due.keys().next());
+            }
+            map.retain(|_, value| value.0 % 5 != turn as u64);
+            due.retain(|_, value| *value % 5 != turn as u64);
+        })
+        .expect("no removal is refused");
+        assert_eq!((map.entries(), map.len(), LIVE.get()), (due.clone(), due.len(), due.len()));
+        assert!(map.iter().rev().map(|(key, _)| key).eq(due.keys().rev()));
+        let (copy, more) = (map.clone(), entries::<K>(50 * turn as u64..250, 1000 * turn as u64));
+        assert_eq!((copy.entries(), map.get(&keys[7]).map(|value| value.0)), (due.clone(), due.get(&keys[7]).copied()));
+        drop(copy);
+        Extend::extend(&mut map, more.iter().map(|(key, value)| (key.clone(), Counted::new(*value))));
+        due.extend(more);
+        assert_eq!((map.entries(), LIVE.get()), (due.clone(), due.len()));
+        assert!(due.iter().all(|(key, value)| map[key].0 == *value));
+    }
+    let (mut other, middle) = (Map::new(), &keys[150]);
+    other.append(&mut map.split_off(middle));
+    assert!(map.entries().into_iter().chain(other.entries()).eq(due));
+}
+
+/// The same of a map of words, and what looks at it.
+fn removes_words<K: WordKey + AnyKey>() {
+    let mut due = entries::<K>(0..300, 0);
+    let (mut map, keys) = (WordMap::loaded(&due), due.keys().cloned().collect::<Vec<K>>());
+    granted(0, || {
+        for key in keys.iter().step_by(3) {
+            assert_eq!(
+                (map.get(key.clone()), map.insert(key.clone(), 7)),
+                (due.get(key).copied(), due.insert(key.clone(), 7))
+            );
+            assert_eq!((map.remove(key.clone()), map.remove(key.clone())), (due.remove(key), None));
+        }
+        for _ in 0..20 {
+            assert_eq!((map.pop_first(), map.pop_last()), (due.pop_first(), due.pop_last()));
+            assert_eq!(map.last_entry().map(|entry| entry.remove_entry()), due.pop_last());
+            assert_eq!(map.first_key_value(), due.first_key_value().map(|(key, value)| (key.clone(), *value)));
+        }
+        map.values_mut().for_each(|mut value| *value += 1);
+        due.values_mut().for_each(|value| *value += 1);
+        assert!(map.iter().rev().eq(due.clone().into_iter().rev()));
+        let picks = |_: &K, value: &mut u64| *value % 2 == 0;
+        assert!(map.extract_if(.., picks).map(|(key, _)| due.remove(&key)).all(|removed| removed.is_some()));
+    })
+    .expect("nothing is refused");
+    assert_eq!(map.entries(), due);
+}
+
+/// A map of which some entries were moved out before memory was refused, as all later calls see it.
+#[test]
+fn what_an_append_leaves_is_a_map() {
+    type Key = (u64, String);
+    let (ones, others) = (entries::<Key>(0..5, 0), entries::<Key>(0..300, 1000));
+    let left = |allocations: u64| -> Option<(Map<Key, Counted>, BTreeMap<Key, u64>)> {
+        let (mut one, mut other) = (Map::of(&ones), Map::loaded(&others));
+        granted(allocations, || Map::append(&mut one, &mut other)).is_none().then_some(())?;
+        let moved = others.len() - other.len();
+        Some((other, others.clone().into_iter().skip(moved).collect()))
+    };
+    let allocations = (1..).find(|allocations| left(*allocations).is_none_or(|(map, _)| map.len() < 250)).unwrap();
+    let made = || left(allocations).expect("some have moved");
+    let ((mut map, mut due), gone) = (made(), others.keys().take(3).cloned().collect::<Vec<_>>());
+    let first = due.first_key_value().unwrap().0.clone();
+    assert_eq!(map.first_key_value().map(|(key, _)| key), Some(&first));
+    assert!(map.get(&gone[0]).is_none() && !map.contains_key(&gone[0]) && map.remove(&gone[0]).is_none());
+    assert!(matches!(map.entry(gone[1].clone()), Entry::Vacant(_)));
+    assert_eq!((map.clone().entries(), map.len()), (due.clone(), due.len()));
+    assert!(map.values().rev().map(|value| value.0).eq(due.values().rev().copied()));
+    assert_eq!(map.pop_first().map(|(key, value)| (key, value.0)), due.pop_first());
+    let mut rest = made().0;
+    let split = rest.split_off(&gone[2]);
+    assert_eq!((rest.len(), split.len()), (0, due.len() + 1));
+    map.insert(gone[1].clone(), Counted::new(9));
+    due.insert(gone[1].clone(), 9);
+    assert!(map.into_iter().map(|(key, value)| (key, value.0)).eq(due));
+    drop((rest, split));
+    assert_eq!(LIVE.get(), 0);
+}
+
+#[test]
+fn removals_take_no_memory() {
+    removes::<u64>();
+    removes::<(u64, String)>();
+    removes_words::<u64>();
+    removes_words::<Vec<u8>>();
+}
+
+/// The place of an entry that is gone is that of the next one, whichever way it went.
+#[test]
+fn places_are_used_again() {
+    let mut map: Map<u64, u64> = (0..1000).map(|number| (u64::of(number), number)).collect();
+    let mut turn = |number: u64| {
+        let (key, value) = map.pop_first().expect("there is a first one");
+        assert_eq!((map.insert(key, value), map.insert(key, value)), (None, Some(value)));
+        let key = u64::of(number);
+        assert_eq!((map.remove(&key), map.insert(key, 5)), (Some(number), None));
+        match map.entry(key) {
+            Entry::Occupied(entry) => assert_eq!(entry.remove(), 5),
+            Entry::Vacant(_) => unreachable!("{key} was put in"),
+        }
+        map.entry(key).or_insert(number);
+    };
+    turn(999);
+    let asked = ASKED_BY_RUST.get();
+    (0..900).chain(0..900).for_each(turn);
+    assert_eq!(ASKED_BY_RUST.get(), asked);
+}
 
 #[test]
 fn a_table_is_extended_copied_and_cleared() {
@@ -429,5 +435,56 @@ fn a_table_is_extended_copied_and_cleared() {
     whole.extend((0..9).map(route));
     assert_eq!((LIVE.get(), shown(&whole)), (whole.len(), first(9)));
     without_memory(|| drop(whole));
+    assert_eq!(LIVE.get(), 0);
+}
+
+#[test]
+fn a_table_is_retained_and_routes_are_added() {
+    let made = || (0..=255u8).map(|at| ([at, 0, 0, 0].into(), Counted::new(at.into()))).collect::<RouteTable<_>>();
+    let is_kept = |number: u64| number % 100 == 0;
+    each_refused(|allocations| {
+        let (mut table, mut calls) = (made(), 0);
+        // So that no node of another kind has room.
+        table.compact();
+        let keeps = |_: &Network, value: &mut Counted| {
+            calls += 1;
+            is_kept(value.0)
+        };
+        let refused = granted(allocations, || table.retain(keeps)).is_none();
+        // The one at which it ended stays, and those behind it.
+        let done = if refused { calls - 1 } else { 256 };
+        assert!(table.values().map(|value| value.0).eq((0..256).filter(|&at| is_kept(at) || at >= done)));
+        assert_eq!(LIVE.get(), table.len());
+        refused
+    });
+    each_refused(|allocations| {
+        let mut table = RouteTable::new();
+        let refused = (0..=255u8).any(|at| {
+            let added =
+                granted(allocations, || table.entry([at, 0, 0, 0].into()).or_insert_with(|| Counted::new(at.into())).0);
+            added.is_none()
+        });
+        assert_eq!(LIVE.get(), table.len());
+        refused
+    });
+}
+
+#[test]
+fn a_table_is_read_without_memory() {
+    let route = |number: u8| (Network::from([10, number, 0, 0]), Counted::new(number.into()));
+    let (table, other) =
+        ((0..99).map(route).collect::<RouteTable<_>>(), (50..=120).map(route).collect::<RouteTable<_>>());
+    let all = Network::truncated([10, 0, 0, 0], 8).unwrap();
+    without_memory(|| {
+        assert_eq!((table.iter().rev().count(), table.children(all).rev().count()), (99, 99));
+        assert_eq!((table.free(all, 16).count(), table.direct_children(all).count()), (157, 99));
+    });
+    without_memory(|| {
+        let mut routes = table.into_iter();
+        assert_eq!((routes.next().unwrap().1 .0, routes.next_back().unwrap().1 .0, routes.len()), (0, 98, 97));
+        routes.by_ref().take(50).for_each(drop);
+        assert_eq!(LIVE.get(), 47 + other.len());
+    });
+    without_memory(|| drop(other));
     assert_eq!(LIVE.get(), 0);
 }

@@ -6,7 +6,7 @@ use std::cell::Cell;
 use std::collections::BTreeMap;
 use std::net::{IpAddr, Ipv4Addr, Ipv6Addr};
 use std::panic::{catch_unwind, AssertUnwindSafe};
-use verified_art::{BadNetwork, Network, RouteTable};
+use verified_art::{BadNetwork, Change, Network, RouteTable};
 
 fn network(text: &str) -> Network {
     text.parse().unwrap()
@@ -52,7 +52,7 @@ fn a_table_does_what_a_scan_does() {
     let mut model = BTreeMap::<Network, String>::new();
     for _ in 0..100_000 {
         let at = some_network(&mut random, &model);
-        match random.below(17) {
+        match random.below(20) {
             0..=3 => {
                 let value = random.next().to_string();
                 assert_eq!(table.insert(at, value.clone()), model.insert(at, value));
@@ -105,6 +105,25 @@ fn a_table_does_what_a_scan_does() {
                 model.retain(|it, _| !is_in(it, &at));
                 assert_eq!(table.remove_covered(at), before - model.len());
             }
+            16 => {
+                let ours = table.entry(at).and_modify(|value| value.push('&')).or_insert_with(|| "new".to_string());
+                let theirs = model.entry(at).and_modify(|value| value.push('&')).or_insert_with(|| "new".to_string());
+                assert_eq!(ours, theirs);
+            }
+            17 => {
+                let inside: Vec<_> =
+                    model.iter().filter(|(it, _)| is_in(it, &at)).map(|(it, value)| (*it, value)).collect();
+                assert!(table.children(at).rev().eq(inside.iter().rev().copied()));
+                let (mut both, mut left) = (table.children(at), inside.as_slice());
+                while random.below(20) > 0 {
+                    let (ours, theirs) = if random.coin() {
+                        (both.next(), left.split_first().map(|(it, rest)| (it, left = rest)))
+                    } else {
+                        (both.next_back(), left.split_last().map(|(it, rest)| (it, left = rest)))
+                    };
+                    assert_eq!(ours, theirs.map(|(it, ())| *it));
+                }
+            }
             _ => match random.below(200) {
                 0 => {
                     table.clear();
@@ -112,7 +131,22 @@ fn a_table_does_what_a_scan_does() {
                 }
                 1 => table.compact(),
                 2 => table.reserve(random.below(100) as usize),
-                3 => table.iter_mut().zip(model.iter_mut()).for_each(|((one, ours), (other, theirs))| {
+                3 => {
+                    let kept = |network: &Network, value: &mut String| {
+                        value.push('k');
+                        network.length() % 3 > 0
+                    };
+                    table.retain(kept);
+                    model.retain(kept);
+                }
+                4 => {
+                    assert!(table.iter().rev().eq(model.iter().rev().map(|(it, value)| (*it, value))));
+                    table.iter_mut().rev().zip(model.iter_mut().rev()).for_each(|((_, ours), (_, theirs))| {
+                        ours.push('<');
+                        theirs.push('<');
+                    });
+                }
+                5 => table.iter_mut().zip(model.iter_mut()).for_each(|((one, ours), (other, theirs))| {
                     assert_eq!((one, &ours), (*other, &theirs));
                     ours.push('?');
                     theirs.push('?');
@@ -125,6 +159,123 @@ fn a_table_does_what_a_scan_does() {
     assert!(table.iter().eq(model.iter().map(|(it, value)| (*it, value))));
     assert!(table.keys().eq(model.keys().copied()) && table.values().eq(model.values()));
     assert_eq!(table.clone(), table);
+    table.values_mut().for_each(|value| value.push('$'));
+    model.values_mut().for_each(|value| value.push('$'));
+    assert!(table.clone().into_values().eq(model.values().cloned()));
+    let (mut routes, mut rest) = (table.into_iter(), model.into_iter());
+    while random.below(500) > 0 {
+        assert_eq!(routes.len(), rest.len());
+        if random.coin() {
+            assert_eq!(routes.next(), rest.next());
+        } else {
+            assert_eq!(routes.next_back(), rest.next_back());
+        }
+    }
+    assert!(routes.rev().eq(rest.rev()));
+}
+
+/// All networks of 10.0.0.0/29, which is one of them, and of its addresses.
+fn small_networks() -> Vec<Network> {
+    let of_length =
+        |length: u8| (0..8u8).step_by(1 << (32 - length)).map(move |at| Network::new([10, 0, 0, at], length).unwrap());
+    (29..=32).flat_map(of_length).collect()
+}
+
+#[test]
+fn free_networks_are_those_that_a_scan_finds() {
+    let (mut random, all) = (Random(29), small_networks());
+    for _ in 0..2000 {
+        let mut table = RouteTable::new();
+        for _ in 0..random.below(5) {
+            table.insert(all[random.below(all.len() as u64) as usize], ());
+        }
+        for network in &all {
+            for length in 28..=33 {
+                let is_free = |it: &Network| {
+                    it.length() == length
+                        && is_in(it, network)
+                        && !table.keys().any(|at| is_in(it, &at) || is_in(&at, it))
+                };
+                let mut free: Vec<_> = all.iter().filter(|it| is_free(it)).copied().collect();
+                free.sort();
+                assert!(table.free(*network, length).eq(free));
+            }
+        }
+    }
+}
+
+#[test]
+fn free_networks_of_many_calls() {
+    let mut table: RouteTable<u8> = RouteTable::new();
+    let hosts = |free: &mut dyn Iterator<Item = Network>| free.map(|it| it.address()).collect::<Vec<_>>();
+    let all: Vec<IpAddr> = (0..=255u8).map(|at| [10, 0, 0, at].into()).collect();
+    assert_eq!(hosts(&mut table.free(network("10.0.0.0/24"), 32)), all);
+    for taken in [0, 31, 32, 63, 64, 255u8] {
+        table.insert([10, 0, 0, taken].into(), taken);
+    }
+    let left: Vec<_> = all
+        .into_iter()
+        .enumerate()
+        .filter(|(at, _)| ![0, 31, 32, 63, 64, 255].contains(at))
+        .map(|(_, it)| it)
+        .collect();
+    assert_eq!(hosts(&mut table.free(network("10.0.0.0/24"), 32)), left);
+    assert_eq!(table.free(network("10.0.0.0/24"), 32).clone().count(), 250);
+    assert!(table
+        .free(network("::/0"), 128)
+        .take(100)
+        .eq((0..100u128).map(|at| Network::from(Ipv6Addr::from_bits(at)))));
+    assert_eq!(table.free(network("ffff:ffff:ffff:ffff:ffff:ffff:ffff:ff00/120"), 128).count(), 256);
+    assert_eq!(table.free(network("255.255.255.0/24"), 32).last(), Some(Ipv4Addr::BROADCAST.into()));
+    assert_eq!(
+        (table.free(network("10.0.0.0/8"), 7).next(), table.free(network("10.0.0.0/8"), 33).next()),
+        (None, None)
+    );
+}
+
+#[test]
+fn differences_are_those_of_two_maps() {
+    let mut random = Random(17);
+    for _ in 0..3000 {
+        let mut old = BTreeMap::<Network, String>::new();
+        for _ in 0..random.below(20) {
+            old.insert(some_network(&mut random, &old), random.below(3).to_string());
+        }
+        let mut new = old.clone();
+        for _ in 0..random.below(12) {
+            let at = some_network(&mut random, &new);
+            if random.coin() {
+                new.remove(&at);
+            } else {
+                new.insert(at, random.below(3).to_string());
+            }
+        }
+        let of = |model: &BTreeMap<Network, String>| model.clone().into_iter().collect::<RouteTable<_>>();
+        let mut changes = Vec::new();
+        let mut networks: Vec<_> = old.keys().chain(new.keys()).copied().collect();
+        networks.sort();
+        networks.dedup();
+        for at in networks {
+            changes.extend(match (old.get(&at), new.get(&at)) {
+                (Some(before), None) => Some(Change::Remove(at, before)),
+                (None, Some(after)) => Some(Change::Insert(at, after)),
+                (Some(before), Some(after)) if before != after => Some(Change::Replace(at, after)),
+                _ => None,
+            });
+        }
+        let (table, other) = (of(&old), of(&new));
+        assert!(table.difference(&other).eq(changes));
+        assert_eq!(table.difference(&table).next(), None);
+        let mut made = table.clone();
+        for change in table.difference(&other) {
+            match change {
+                Change::Insert(at, value) => assert_eq!(made.insert(at, value.clone()), None),
+                Change::Remove(at, value) => assert_eq!(made.remove(at).as_ref(), Some(value)),
+                Change::Replace(at, value) => assert!(made.insert(at, value.clone()).is_some()),
+            }
+        }
+        assert_eq!(made, other);
+    }
 }
 
 #[test]
@@ -174,9 +325,9 @@ fn aggregated_tables_match_as_before() {
             assert_ne!(table.parent(it).map(|(_, outer)| outer), Some(value));
             if it.length() > 0 {
                 let whole = Network::truncated(it.address(), it.length() - 1).unwrap();
-                let same = table.iter().filter(|(half, other)| {
-                    half.length() == it.length() && is_in(half, &whole) && *other == value
-                });
+                let same = table
+                    .iter()
+                    .filter(|(half, other)| half.length() == it.length() && is_in(half, &whole) && *other == value);
                 assert_eq!(same.count(), 1);
             }
         }
@@ -283,4 +434,63 @@ fn each_value_is_dropped_once() {
     table.insert([5, 0, 0, 0].into(), Counted(&drops, false));
     drop(table);
     assert_eq!(drops.get(), 102);
+}
+
+#[test]
+fn what_an_iterator_by_value_leaves_is_dropped_once() {
+    let drops = Cell::new(0);
+    let of_ten = || (0..10u8).map(|at| ([at, 0, 0, 0].into(), Counted(&drops, false))).collect::<RouteTable<_>>();
+    drop(of_ten().into_iter());
+    assert_eq!(drops.replace(0), 10);
+    let mut routes = of_ten().into_iter();
+    let (first, last) = (routes.next().unwrap(), routes.next_back().unwrap());
+    assert_eq!((first.0, last.0, routes.len(), drops.get()), ([0, 0, 0, 0].into(), [9, 0, 0, 0].into(), 8, 0));
+    drop(routes);
+    assert_eq!(drops.get(), 8);
+    drop((first, last));
+    assert_eq!(drops.replace(0), 10);
+    assert_eq!((of_ten().into_iter().count(), drops.get()), (10, 10));
+}
+
+#[test]
+fn a_closure_that_panics_leaves_a_whole_table() {
+    let drops = Cell::new(0);
+    let mut table: RouteTable<Counted<'_>> =
+        (0..100u8).map(|at| ([at, 0, 0, 0].into(), Counted(&drops, false))).collect();
+    let keeps = |it: &Network, _: &mut Counted<'_>| it.length() == 32 && *it != [50, 0, 0, 0].into() && panic!("at 0");
+    assert!(catch_unwind(AssertUnwindSafe(|| table.retain(keeps))).is_err());
+    assert_eq!((table.len(), drops.get()), (100, 0));
+    let mut calls = 0;
+    let keeps = |_: &Network, _: &mut Counted<'_>| {
+        calls += 1;
+        assert!(calls <= 50, "at the last one but fifty");
+        calls % 2 == 0
+    };
+    assert!(catch_unwind(AssertUnwindSafe(|| table.retain(keeps))).is_err());
+    assert_eq!((table.len(), drops.get()), (75, 25));
+    drop(table);
+    assert_eq!(drops.get(), 100);
+}
+
+#[test]
+fn entries_are_read_changed_and_removed() {
+    use verified_art::route_entry::Entry;
+
+    let (eight, nine) = (network("10.0.0.0/8"), network("10.0.0.0/9"));
+    let mut table = RouteTable::from([(eight, "a".to_string())]);
+    assert_eq!(format!("{:?}", table.entry(nine)), "Vacant(VacantEntry(Network { address: 10.0.0.0, length: 9 }))");
+    let Entry::Occupied(mut entry) = table.entry(eight) else { panic!("there is a route") };
+    entry.get_mut().push('b');
+    assert_eq!((entry.key(), entry.get().as_str()), (&eight, "ab"));
+    assert_eq!(entry.insert("c".to_string()), "ab");
+    entry.into_mut().push('d');
+    assert_eq!((*table.entry(eight).key(), *table.entry(nine).key()), (eight, nine));
+    assert_eq!(table.entry(eight).or_default(), "cd");
+    assert_eq!(table.entry(nine).or_default(), "");
+    assert_eq!(table.entry(nine).or_insert_with_key(|it| it.to_string()), "");
+    let Entry::Occupied(entry) = table.entry(eight) else { panic!("there is a route") };
+    assert_eq!(entry.remove_entry(), (eight, "cd".to_string()));
+    let Entry::Vacant(entry) = table.entry(eight) else { panic!("there is none") };
+    assert_eq!((*entry.key(), entry.into_key()), (eight, eight));
+    assert_eq!((table.len(), table.get_lpm(eight)), (1, None));
 }

@@ -1,4 +1,4 @@
-//! The calls that `BTreeMap` has too, each beside it.
+//! The calls of maps of words that `BTreeMap` has too, each beside it.
 mod common;
 
 use common::{change_both, Random};
@@ -8,12 +8,9 @@ use std::fmt::Debug;
 use std::hash::{Hash, Hasher};
 use std::iter::FusedIterator;
 use std::marker::PhantomData;
-use verified_art::entry::{Entry, ValueMut, WordEntry};
-use verified_art::iter::{
-    IntoIter, IntoKeys, IntoValues, Iter, IterMut, Keys, MapIntoIter, MapIntoKeys, MapIntoValues, MapIter, MapIterMut,
-    MapRange, MapRangeMut, MapValues, MapValuesMut, Range, RangeMut, Values, ValuesMut,
-};
-use verified_art::{AsKey, ByteMap, Key, Map, NumberMap, Refusal, WordMap};
+use verified_art::entry::{ValueMut, WordEntry};
+use verified_art::iter::{IntoIter, IntoKeys, IntoValues, Iter, IterMut, Keys, Range, RangeMut, Values, ValuesMut};
+use verified_art::{AsKey, ByteMap, Key, NumberMap, Refusal, WordMap};
 
 /// How many maps each test makes.
 const TURNS: u64 = 200;
@@ -41,21 +38,10 @@ fn words<K: AnyKey>(random: &mut Random) -> (WordMap<K>, BTreeMap<K, u64>) {
     (entries.iter().cloned().collect(), entries.into_iter().collect())
 }
 
-fn boxed<K: AnyKey>(random: &mut Random) -> (Map<String, K>, BTreeMap<K, String>) {
-    let entries: Vec<_> = (0..random.below(100)).map(|_| (K::any(random), random.below(20).to_string())).collect();
-    (entries.iter().cloned().collect(), entries.into_iter().collect())
-}
-
 fn same_words<K: AnyKey>(ours: &WordMap<K>, theirs: &BTreeMap<K, u64>) {
     assert_eq!(ours.len(), theirs.len());
     assert!(ours.iter().eq(theirs.iter().map(|(key, value)| (key.clone(), *value))));
     assert!(ours.iter().rev().eq(theirs.iter().rev().map(|(key, value)| (key.clone(), *value))));
-}
-
-fn same_boxed<K: AnyKey>(ours: &Map<String, K>, theirs: &BTreeMap<K, String>) {
-    assert_eq!(ours.len(), theirs.len());
-    assert!(ours.iter().eq(theirs.iter().map(|(key, value)| (key.clone(), value))));
-    assert!(ours.iter().rev().eq(theirs.iter().rev().map(|(key, value)| (key.clone(), value))));
 }
 
 fn entries_of_words<K: AnyKey>() {
@@ -110,82 +96,24 @@ fn entries_of_words<K: AnyKey>() {
     }
 }
 
-fn entries_of_boxed<K: AnyKey>() {
-    let mut random = Random(2);
-    for _ in 0..TURNS {
-        let (mut ours, mut theirs) = boxed::<K>(&mut random);
-        for _ in 0..50 {
-            let (key, value) = (K::any(&mut random), random.below(20).to_string());
-            match random.below(6) {
-                0 => assert_eq!(ours.entry(key.clone()).or_insert(value.clone()), theirs.entry(key).or_insert(value)),
-                1 => {
-                    let found = ours.entry(key.clone()).and_modify(|it| it.push('!')).or_default();
-                    assert_eq!(found, theirs.entry(key).and_modify(|it| it.push('!')).or_default());
-                }
-                2 => {
-                    let found = ours.entry(key.clone()).or_insert_with_key(|key| format!("{key:?}"));
-                    found.push('?');
-                    let due = theirs.entry(key).or_insert_with_key(|key| format!("{key:?}"));
-                    due.push('?');
-                    assert_eq!(found, due);
-                }
-                3 => {
-                    let before = theirs.insert(key.clone(), value.clone());
-                    match ours.entry(key.clone()) {
-                        Entry::Occupied(mut entry) => {
-                            assert_eq!((entry.key(), Some(entry.get())), (&key, before.as_ref()));
-                            assert_eq!(Some(entry.insert(value.clone())), before);
-                            assert_eq!(*entry.into_mut(), value);
-                        }
-                        Entry::Vacant(entry) => {
-                            assert_eq!((entry.key(), before), (&key, None));
-                            assert_eq!(*entry.insert(value.clone()), value);
-                        }
-                    }
-                }
-                4 => match ours.entry(key.clone()) {
-                    Entry::Occupied(entry) => assert_eq!(Some(entry.remove_entry()), theirs.remove_entry(&key)),
-                    Entry::Vacant(entry) => assert_eq!((entry.into_key(), theirs.remove(&key)), (key, None)),
-                },
-                _ if random.coin() => {
-                    let found = ours.first_entry().map(|entry| entry.remove());
-                    assert_eq!(found, theirs.first_entry().map(|entry| entry.remove()));
-                }
-                _ => {
-                    let found = ours.last_entry().map(|mut entry| entry.insert(value.clone()));
-                    assert_eq!(found, theirs.last_entry().map(|mut entry| entry.insert(value)));
-                }
-            }
-        }
-        same_boxed(&ours, &theirs);
-    }
-}
-
 #[test]
 fn entries() {
     entries_of_words::<u64>();
     entries_of_words::<Vec<u8>>();
-    entries_of_boxed::<u64>();
-    entries_of_boxed::<Vec<u8>>();
 }
 
 fn keys_with_their_values<K: AnyKey>() {
     let mut random = Random(3);
     let (mut ours, mut theirs) = words::<K>(&mut random);
-    let (mut our_texts, mut their_texts) = boxed::<K>(&mut random);
     for _ in 0..300 {
         let key = K::any(&mut random);
         assert_eq!(
             ours.get_key_value(key.clone()),
             theirs.get_key_value(&key).map(|(key, value)| (key.clone(), *value))
         );
-        let found = our_texts.get_key_value(key.clone());
-        assert_eq!(found, their_texts.get_key_value(&key).map(|(key, value)| (key.clone(), value)));
         assert_eq!(ours.remove_entry(key.clone()), theirs.remove_entry(&key));
-        assert_eq!(our_texts.remove_entry(key.clone()), their_texts.remove_entry(&key));
     }
     same_words(&ours, &theirs);
-    same_boxed(&our_texts, &their_texts);
 }
 
 #[test]
@@ -205,15 +133,6 @@ fn appended_and_split<K: AnyKey>() {
         let key = K::any(&mut random);
         same_words(&ours.split_off(key.clone()), &theirs.split_off(&key));
         same_words(&ours, &theirs);
-
-        let ((mut ours, mut theirs), (mut our_other, mut their_other)) = (boxed::<K>(&mut random), boxed(&mut random));
-        ours.append(&mut our_other);
-        theirs.append(&mut their_other);
-        same_boxed(&ours, &theirs);
-        assert!(our_other.is_empty());
-        let key = K::any(&mut random);
-        same_boxed(&ours.split_off(key.clone()), &theirs.split_off(&key));
-        same_boxed(&ours, &theirs);
     }
 }
 
@@ -243,23 +162,6 @@ fn collected<K: AnyKey>() {
             sorted.reverse();
             assert_eq!(ascending(&sorted).is_err(), sorted.len() > 1);
         }
-
-        let entries: Vec<(K, String)> = (0..size).map(|_| (K::any(&mut random), random.next().to_string())).collect();
-        let given = |entries: &[(K, String)]| -> Map<String, K> { entries.iter().cloned().collect() };
-        let (ours, theirs) = (given(&entries), BTreeMap::from_iter(entries));
-        same_boxed(&ours, &theirs);
-        same_boxed(&ours.clone(), &theirs);
-        let mut sorted: Vec<_> = theirs.clone().into_iter().collect();
-        same_boxed(&given(&sorted), &theirs);
-        let ascending = |entries: &[(K, String)]| Map::<String, K>::from_ascending(entries.iter().cloned());
-        same_boxed(&ascending(&sorted).unwrap(), &theirs);
-        if let Some(last) = sorted.last().cloned() {
-            sorted.push(last);
-            assert_eq!(ascending(&sorted), Err(Refusal::NotAscending));
-            sorted.pop();
-            sorted.reverse();
-            assert_eq!(ascending(&sorted).is_err(), sorted.len() > 1);
-        }
     }
 }
 
@@ -280,14 +182,6 @@ fn kept<K: AnyKey>() {
         ours.retain(odd);
         theirs.retain(odd);
         same_words(&ours, &theirs);
-        let (mut ours, mut theirs) = boxed::<K>(&mut random);
-        let short = |_: &K, value: &mut String| {
-            value.push('0');
-            value.len() < 3
-        };
-        ours.retain(short);
-        theirs.retain(short);
-        same_boxed(&ours, &theirs);
     }
 }
 
@@ -309,13 +203,6 @@ fn extracted<K: AnyKey>() {
         due.iter().for_each(|(key, _)| assert!(theirs.remove(key).is_some()));
         assert_eq!(found, due);
         same_words(&ours, &theirs);
-        let (mut ours, mut theirs) = boxed::<K>(&mut random);
-        let found: Vec<_> = ours.extract_if(.., |_, value| value.len() == 1).take(most).collect();
-        let due: Vec<_> = theirs.iter().filter(|(_, value)| value.len() == 1).take(most).collect();
-        let due: Vec<_> = due.into_iter().map(|(key, value)| (key.clone(), value.clone())).collect();
-        due.iter().for_each(|(key, _)| assert!(theirs.remove(key).is_some()));
-        assert_eq!(found, due);
-        same_boxed(&ours, &theirs);
     }
 }
 
@@ -352,13 +239,7 @@ fn order_and_hash() {
         assert_eq!(ours[0].cmp(&ours[1]), theirs[0].cmp(&theirs[1]));
         assert_eq!((ours[0] == ours[1], ours[0] < ours[1]), (theirs[0] == theirs[1], theirs[0] < theirs[1]));
         assert_eq!(hash_of(&ours[0]), hash_of(&theirs[0]));
-        let ours: [Map<u64, u64>; 2] = [one.into_iter().collect(), other.into_iter().collect()];
-        assert_eq!(ours[0].cmp(&ours[1]), theirs[0].cmp(&theirs[1]));
-        assert_eq!(ours[0].partial_cmp(&ours[1]), theirs[0].partial_cmp(&theirs[1]));
-        assert_eq!(hash_of(&ours[0]), hash_of(&theirs[0]));
     }
-    let floats = [Map::<f64>::from([("a", f64::NAN)]), Map::<f64>::from([("a", 1.0)])];
-    assert_eq!((floats[0].partial_cmp(&floats[1]), floats[0] == floats[0]), (None, false));
 }
 
 #[test]
@@ -368,10 +249,6 @@ fn extend_by_another_map() {
     ours.extend(&our_other);
     theirs.extend(their_other);
     same_words(&ours, &theirs);
-    let mut numbers = Map::<u64>::from([("tin", 50)]);
-    let others = Map::<u64>::from([("tin", 51), ("gold", 79)]);
-    numbers.extend(&others);
-    assert_eq!(numbers, others);
 }
 
 fn parts_of_words<K: AnyKey>() {
@@ -384,11 +261,6 @@ fn parts_of_words<K: AnyKey>() {
         assert!(ours.clone().into_keys().rev().eq(theirs.clone().into_keys().rev()));
         assert!(ours.clone().into_values().rev().eq(theirs.clone().into_values().rev()));
         assert_eq!(ours.range(..).count(), theirs.len());
-        let (ours, theirs) = boxed::<K>(&mut random);
-        assert!(ours.keys().eq(theirs.keys().cloned()) && ours.values().eq(theirs.values()));
-        assert!(ours.clone().into_keys().rev().eq(theirs.clone().into_keys().rev()));
-        assert!(ours.clone().into_values().eq(theirs.clone().into_values()));
-        assert!(ours.into_values().rev().eq(theirs.into_values().rev()));
     }
 }
 
@@ -492,12 +364,6 @@ fn iterators_are_copied() {
     copied(words.values());
     copied(words.range("h"..));
     copied(words.prefix("ti"));
-    let boxed = Map::<u64>::from(metals);
-    copied(boxed.iter());
-    copied(boxed.keys());
-    copied(boxed.values());
-    copied(boxed.range(.."tin"));
-    copied(boxed.prefix("t"));
 }
 
 #[test]
@@ -523,18 +389,6 @@ fn iterators_show_what_is_left() {
     drop(guard);
     assert_eq!(format!("{:?}", words.range_mut(..=2)), "[(1, 10), (2, 20)]");
     assert_eq!(format!("{:?}", words.values_mut()), "[10, 20, 30]");
-    let mut boxed = Map::<u64>::from([("tin", 50), ("gold", 79)]);
-    assert_eq!(format!("{:?}", boxed.iter()), r#"[(b"gold", 79), (b"tin", 50)]"#);
-    assert_eq!(format!("{:?} {:?}", boxed.keys(), boxed.values()), r#"[b"gold", b"tin"] [79, 50]"#);
-    let mut entries = boxed.iter_mut();
-    entries.next();
-    assert_eq!(format!("{entries:?}"), r#"[(b"tin", 50)]"#);
-    assert_eq!(format!("{:?}", boxed.range_mut("h"..)), r#"[(b"tin", 50)]"#);
-    assert_eq!(format!("{:?}", boxed.entry("tin")), r#"Occupied(OccupiedEntry { key: b"tin", value: 50 })"#);
-    assert_eq!(format!("{:?}", boxed.entry("iron")), r#"Vacant(VacantEntry(b"iron"))"#);
-    assert_eq!(format!("{:?}", boxed.values_mut()), "[79, 50]");
-    assert_eq!(format!("{:?}", boxed.clone().into_iter()), r#"[(b"gold", 79), (b"tin", 50)]"#);
-    assert_eq!(format!("{:?} {:?}", boxed.clone().into_keys(), boxed.into_values()), r#"[b"gold", b"tin"] [79, 50]"#);
 }
 
 fn fused<T: FusedIterator + DoubleEndedIterator>() {}
@@ -552,27 +406,14 @@ fn types_of_iterators() {
     fused::<IterMut<u64>>();
     fused::<RangeMut<u64>>();
     fused::<ValuesMut<u64>>();
-    fused::<MapIter<u8, u64>>();
-    fused::<MapRange<u8, u64>>();
-    fused::<MapValues<u8, u64>>();
-    fused::<MapRangeMut<u8, u64>>();
     shared::<ByteMap>();
     shared::<NumberMap>();
-    shared::<Map<String>>();
     sent::<Iter<u64>>();
     sent::<Range<Vec<u8>>>();
     sent::<Keys<u64>>();
-    sent::<MapIter<String, u64>>();
-    sent::<MapValues<String, u64>>();
     sent::<IntoIter<Vec<u8>>>();
     sent::<IntoKeys<u64>>();
     sent::<IntoValues<u64>>();
-    sent::<MapIntoIter<String, u64>>();
-    sent::<MapIntoKeys<String, Vec<u8>>>();
-    sent::<MapIntoValues<String, u64>>();
-    sent::<MapIterMut<String, u64>>();
-    sent::<MapRangeMut<String, Vec<u8>>>();
-    sent::<MapValuesMut<String, u64>>();
 }
 
 /// Whether a type is `Send`, and `Sync`: what a type has of its own goes before what a trait gives it.
@@ -604,38 +445,8 @@ fn guards_stay_in_their_thread() {
 }
 
 #[test]
-fn values_are_changed_on_another_thread() {
-    let mut map: Map<Vec<u64>, u64> = (0..1000u64).map(|key| (key, vec![key])).collect();
-    let entries = map.iter_mut();
-    std::thread::scope(|scope| {
-        scope.spawn(move || entries.for_each(|(key, value)| value.push(key * key)));
-    });
-    assert!(map.iter().all(|(key, value)| *value == [key, key * key]));
-}
-
-/// A key that cannot be read leaves nothing behind.
-#[test]
-fn a_key_that_panics_drops_the_value() {
-    struct Panics;
-
-    impl AsRef<[u8]> for Panics {
-        fn as_ref(&self) -> &[u8] {
-            panic!("no key")
-        }
-    }
-
-    let value = std::rc::Rc::new(());
-    let mut map = Map::<std::rc::Rc<()>>::new();
-    let copy = value.clone();
-    let call = std::panic::AssertUnwindSafe(|| map.insert(Panics, copy));
-    assert!(std::panic::catch_unwind(call).is_err());
-    assert_eq!((std::rc::Rc::strong_count(&value), map.len()), (1, 0));
-}
-
-#[test]
 fn threads_read_one_map() {
     let metals = ByteMap::from([("tin", 50), ("gold", 79), ("titanium", 22)]);
-    let texts = Map::<String, u64>::from([(1u64, "one".to_string()), (2, "two".to_string())]);
     std::thread::scope(|scope| {
         for _ in 0..4 {
             scope.spawn(|| {
@@ -643,7 +454,6 @@ fn threads_read_one_map() {
                     assert_eq!((metals.get("tin"), metals.len()), (Some(50), 3));
                     assert_eq!(metals.prefix("ti").map(|(_, value)| value).collect::<Vec<_>>(), [50, 22]);
                     assert_eq!(metals.last_key_value().map(|(_, value)| value), Some(22));
-                    assert_eq!((texts.get(2).unwrap().as_str(), texts.values().rev().count()), ("two", 2));
                 }
             });
         }

@@ -2,6 +2,7 @@
 #![allow(dead_code)]
 
 use std::fmt::Debug;
+use std::ops::Bound;
 use verified_art::entry::ValueMut;
 use verified_art::Key;
 
@@ -31,6 +32,15 @@ impl Random {
         self.next() >> bits
     }
 
+    /// A bound at a key, or none.
+    pub fn bound<K>(&mut self, key: K) -> Bound<K> {
+        match self.below(3) {
+            0 => Bound::Included(key),
+            1 => Bound::Excluded(key),
+            _ => Bound::Unbounded,
+        }
+    }
+
     /// Few letters, with zeros and 255s: many are equal or begin another, and some are longer than a
     /// node's prefix or than a first buffer.
     pub fn bytes(&mut self) -> Vec<u8> {
@@ -41,6 +51,33 @@ impl Random {
             key.resize(key.len() + more, letter);
         }
         key
+    }
+}
+
+/// Whether `BTreeMap::range` takes these bounds, and does not panic.
+pub fn is_range<K: Ord>(start: &Bound<K>, end: &Bound<K>) -> bool {
+    match (start, end) {
+        (Bound::Unbounded, _) | (_, Bound::Unbounded) => true,
+        (Bound::Excluded(start), Bound::Excluded(end)) => start < end,
+        (Bound::Included(start) | Bound::Excluded(start), Bound::Included(end) | Bound::Excluded(end)) => start <= end,
+    }
+}
+
+/// Takes up to `most` items of two iterators, each time from a random end, and compares them.
+pub fn walk_both<T: PartialEq + Debug>(
+    random: &mut Random,
+    most: u64,
+    mut ours: impl DoubleEndedIterator<Item = T>,
+    mut theirs: impl DoubleEndedIterator<Item = T>,
+) {
+    let both_ends = random.coin();
+    for _ in 0..most {
+        let back = both_ends && random.coin();
+        let (one, other) = if back { (ours.next_back(), theirs.next_back()) } else { (ours.next(), theirs.next()) };
+        assert_eq!(one, other);
+        if one.is_none() {
+            break;
+        }
     }
 }
 
