@@ -1,44 +1,68 @@
 #!/usr/bin/env python3
-"""Times SortedMap beside SortedDict of sortedcontainers (Debian: python3-sortedcontainers), on str keys in random order.
+"""Times SortedMap beside SortedDict of sortedcontainers (Debian: python3-sortedcontainers), and SortedSet beside its SortedSet.
 
-    python3 bindings/python/bench.py [ENTRIES]
+    python3 bindings/python/bench.py [ENTRIES] [CALL ..]
 
-Each line is nanoseconds for one key of SortedMap and of SortedDict, the least of many runs, and the first by the second."""
+Each line is nanoseconds of processor time for one key, ours and theirs, the least of runs that take turns, and the first by the
+second: of str keys of 3 to 13 letters, and of int keys of 64 bits, in random order. `pip install bindings/python` comes first."""
 
 import gc
 import random
 import sys
 import time
+from pathlib import Path
 from string import ascii_lowercase
 
-from sortedcontainers import SortedDict
-from verified_art import SortedMap
+# The folder of this file has the module without its part in C.
+sys.path = [place for place in sys.path if Path(place or ".").resolve() != Path(__file__).resolve().parent]
 
-RUNS = 15
+import sortedcontainers  # noqa: E402
+import verified_art  # noqa: E402
+
+RUNS = 9
 
 
-def words(choose, count):
+def some_words(choose, count):
     found = {}
     while len(found) < count:
         found["".join(choose.choices(ascii_lowercase, k=choose.randrange(3, 14)))] = None
     return list(found)
 
 
-def filled(kind, keys):
-    made = kind()
+def some_numbers(choose, count):
+    return [choose.getrandbits(64) - 2**63 for _ in range(count)]
+
+
+def other_objects(keys):
+    return [key + 1 - 1 if isinstance(key, int) else (key + " ")[:-1] for key in keys]
+
+
+def each(made, name, keys):
+    """Makes a call with each key."""
+    call = getattr(made, name)
+    for key in keys:
+        call(key)
+
+
+def insert(made, keys):
     for key in keys:
         made[key] = 1
-    return made
 
 
-def look_up(made, keys):
+def get(made, keys):
     for key in keys:
         made[key]
 
 
-def go_over(walk):
-    for _ in walk:
-        pass
+def contains(made, keys):
+    for key in keys:
+        key in made
+
+
+def remove_and_set(made, keys):
+    for key in keys:
+        del made[key]
+        made[key] = 1
 
 
 def ranges(made, keys):
@@ -50,43 +74,104 @@ def ranges(made, keys):
 
 def prefixes(made, starts):
     for start in starts:
-        if isinstance(made, SortedMap):
+        if hasattr(made, "prefix"):
             list(made.prefix(start))
         else:
             list(made.irange(start, start[:-1] + chr(ord(start[-1]) + 1), (True, False)))
 
 
-def least(call):
-    """The seconds of the shortest of many runs."""
-    best = float("inf")
+def go_over(walk):
+    for _ in walk:
+        pass
+
+
+def calls_of_maps(keys, choose):
+    """By name: what is made anew for each run (None: nothing), the call, and how many keys it is for."""
+    count, again, other = len(keys), choose.sample(keys, len(keys)), choose.sample(other_objects(keys), len(keys))
+    as_dict, pairs, half = dict.fromkeys(keys, 1), [(key, 1) for key in keys], dict.fromkeys(keys[::2], 1)
+    few, tenth, places = choose.sample(keys, 100), dict.fromkeys(choose.sample(keys, count // 10), 2), [choose.randrange(count) for _ in range(1000)]
+    calls = {
+        "insert": (lambda kind: kind(), lambda made: insert(made, keys), count),
+        "a dict at once": (None, lambda made: type(made)(as_dict), count),
+        "pairs at once": (None, lambda made: type(made)(pairs), count),
+        "an iterator at once": (None, lambda made: type(made)(zip(keys, keys)), count),
+        "update, all new": (lambda kind: kind(half), lambda made: made.update(as_dict), count),
+        "update, a tenth": (None, lambda made: made.update(tenth), count // 10),
+        "update, 100": (None, lambda made: made.update(dict.fromkeys(few, 1)), 100),
+        "get, first time": (lambda kind: kind(as_dict), lambda made: get(made, again), count),
+        "get": (None, lambda made: get(made, again), count),
+        "get, other objects": (None, lambda made: get(made, other), count),
+        "get(), not there": (None, lambda made: each(made, "get", [key + key for key in few] * 10), 1000),
+        "in": (None, lambda made: contains(made, again), count),
+        "setdefault": (None, lambda made: each(made, "setdefault", again), count),
+        "remove and set": (None, lambda made: remove_and_set(made, again[:10_000]), 10_000),
+        "popitem": (lambda kind: kind(half), lambda made: [made.popitem() for _ in range(1000)], 1000),
+        "iterate": (None, go_over, count),
+        "reversed": (None, lambda made: go_over(reversed(made)), count),
+        "values": (None, lambda made: go_over(made.values()), count),
+        "items": (None, lambda made: go_over(made.items()), count),
+        "ranges of 100": (None, lambda made: ranges(made, few), 100 * len(few)),
+        "irange, 1 key": (None, lambda made: [list(made.irange(key, key)) for key in few], len(few)),
+        "bisect": (None, lambda made: each(made, "bisect", again[:10_000]), 10_000),
+        "index": (None, lambda made: each(made, "index", again[:10_000]), 10_000),
+        "peekitem": (None, lambda made: each(made, "peekitem", places), 1000),
+        "copy": (None, lambda made: made.copy(), count),
+        "==": (lambda kind: kind(as_dict), lambda made: made == as_dict, count),
+    }
+    if isinstance(keys[0], str):
+        starts = [key[:2] for key in few]
+        calls["a prefix"] = (None, lambda made: prefixes(made, starts), len(starts))
+    return calls
+
+
+def calls_of_sets(keys, choose):
+    count, again, half = len(keys), choose.sample(keys, len(keys)), set(keys[::2])
+    places = [choose.randrange(count) for _ in range(1000)]
+    return {
+        "add": (lambda kind: kind(), lambda made: each(made, "add", keys), count),
+        "a list at once": (None, lambda made: type(made)(keys), count),
+        "in": (None, lambda made: contains(made, again), count),
+        "add again": (None, lambda made: each(made, "add", again), count),
+        "remove": (lambda kind: kind(keys), lambda made: each(made, "remove", again[:10_000]), 10_000),
+        "pop": (lambda kind: kind(keys), lambda made: [made.pop() for _ in range(1000)], 1000),
+        "iterate": (None, go_over, count),
+        "[index]": (None, lambda made: get(made, places), 1000),
+        "bisect": (None, lambda made: each(made, "bisect", again[:10_000]), 10_000),
+        "| set": (None, lambda made: made | half, count),
+        "& set": (None, lambda made: made & half, count),
+        "- set": (None, lambda made: made - half, count),
+        "& its own kind": (lambda kind: (kind(keys), kind(half)), lambda two: two[0] & two[1], count),
+        ">= set": (None, lambda made: made >= half, count),
+    }
+
+
+def least(call, make, kinds, kept):
+    """The seconds of the shortest run of each kind."""
+    best = [float("inf")] * 2
     for _ in range(RUNS):
-        begun = time.perf_counter()
-        call()
-        best = min(best, time.perf_counter() - begun)
+        for which, kind in enumerate(kinds):
+            made = make(kind) if make else kept[which]
+            begun = time.process_time()
+            call(made)
+            best[which] = min(best[which], time.process_time() - begun)
     return best
 
 
 def main():
-    choose = random.Random(1)
-    keys = words(choose, int(sys.argv[1]) if len(sys.argv) > 1 else 100_000)
-    again, few, starts = choose.sample(keys, len(keys)), choose.sample(keys, 100), [key[:2] for key in choose.sample(keys, 100)]
-    as_dict = dict.fromkeys(keys, 1)
-    calls = {
-        "insert": (lambda kind, _: filled(kind, keys), len(keys)),
-        "insert a dict": (lambda kind, _: kind(as_dict), len(keys)),
-        "get": (lambda _, made: look_up(made, again), len(keys)),
-        "set again": (lambda _, made: made.update(dict.fromkeys(few, 1)), len(few)),
-        "iterate": (lambda _, made: go_over(made), len(keys)),
-        "iterate items": (lambda _, made: go_over(made.items()), len(keys)),
-        "ranges of 100": (lambda _, made: ranges(made, few), 100 * len(few)),
-        "a prefix": (lambda _, made: prefixes(made, starts), len(starts)),
-    }
+    numbers = [word for word in sys.argv[1:] if word.isdigit()]
+    wanted, count = [word for word in sys.argv[1:] if not word.isdigit()], int(numbers[0]) if numbers else 100_000
     gc.disable()
-    maps = [(kind, filled(kind, keys)) for kind in (SortedMap, SortedDict)]
-    print(f"{len(keys)} keys, SortedMap of {SortedMap.__base__.__module__}")
-    for name, (call, count) in calls.items():
-        ours, theirs = (least(lambda kind=kind, made=made: call(kind, made)) * 1e9 / count for kind, made in maps)
-        print(f"{name:>14} {ours:9.0f} {theirs:9.0f} {ours / theirs:7.2f}")
+    for some_keys in (some_words, some_numbers):
+        choose = random.Random(1)
+        keys = some_keys(choose, count)
+        for name, calls_of in (("SortedMap", calls_of_maps), ("SortedSet", calls_of_sets)):
+            kinds = getattr(verified_art, name), getattr(sortedcontainers, name.replace("Map", "Dict"))
+            kept = [kind(dict.fromkeys(keys, 1)) for kind in kinds]
+            print(f"{name}, {count} {some_keys.__name__[5:]}")
+            for call_name, (make, call, its) in calls_of(keys, choose).items():
+                if not wanted or call_name in wanted:
+                    ours, theirs = (seconds * 1e9 / its for seconds in least(call, make, kinds, kept))
+                    print(f"{call_name:>20} {ours:9.0f} {theirs:9.0f} {ours / theirs:7.2f}", flush=True)
 
 
 main()

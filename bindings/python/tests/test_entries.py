@@ -78,6 +78,9 @@ class ManyAtOnce(Whole):
         ["", "a", "a\0", "b", "ä", "\ud800", "\uffff", "\U0001f600", *map(str, range(300))],
         [b"", b"\0", b"\0\xff", b"a" * 400, *(bytes([number, 255 - number]) for number in range(1, 256))],
         [-(2**63), -1, 0, 1, 2**63 - 1, *range(1000, 1400, 3)],
+        [float("-inf"), -1.5, 0.0, 1e300, float("inf"), *(number / 7 for number in range(1, 100))],
+        [ipaddress.IPv6Address(number << 100) for number in range(200)],
+        [(word, number) for word in ("", "a", "ab", "b") for number in range(-20, 20)],
     )
 
     def orders(self, keys):
@@ -101,7 +104,7 @@ class ManyAtOnce(Whole):
                     self.assert_whole(made, due)
 
     def test_a_map_whose_entries_went_keeps_its_type(self):
-        for keys, other in zip(self.KEYS, ([1], ["a"], [b"a"])):
+        for keys, other in zip(self.KEYS, ([1], ["a"], [b"a"], [1], [1], [1])):
             made = SortedMap.fromkeys(keys)
             for key in keys:
                 del made[key]
@@ -115,7 +118,7 @@ class ManyAtOnce(Whole):
             def __iter__(self):
                 raise ZeroDivisionError
 
-        for first, second, third, wrong in (("a", "b", "c", 5), (b"a", b"b", b"c", "b"), (1, 2, 3, b"1"), (1, 2, 3, 2**63)):
+        for first, second, third, wrong in (("a", "b", "c", 5), (b"a", b"b", b"c", "b"), (1, 2, 3, b"1"), (1, 2, 3, 2**63), (1.5, 2.5, 3.5, 1), (("a", 1), ("b", 1), ("c", 1), ("d",))):
             for bad, refusal in (((wrong, 1), (TypeError, OverflowError)), ((third, 1, 1), ValueError), (7, TypeError), (Unread(), ZeroDivisionError)):
                 for before in ({}, {second: "before"}, {third: "before"}):
                     for kind in (list, tuple, iter):
@@ -125,6 +128,16 @@ class ManyAtOnce(Whole):
                         self.assert_whole(made, before | {first: "first", second: "second"})
                         self.assertRaises(refusal, made.update, kind(pairs[2:]))
                         self.assert_whole(made, before | {first: "first", second: "second"})
+
+    def test_equal_keys_are_one(self):
+        for keys in self.KEYS:
+            for count in (1, 2, 128, 129):
+                firsts = keys[:count]
+                made, due = SortedMap([(key, at) for at, key in enumerate(firsts * 30)]), {key: at for at, key in enumerate(firsts * 30)}
+                self.assert_whole(made, due)
+                for key in keys:
+                    made[key] = due[key] = "after"
+                self.assert_whole(made, due)
 
     def test_a_first_key_that_is_refused_leaves_no_type(self):
         for bad in ((None, 1), (2**63, 1), ("a", 1, 2)):
@@ -219,7 +232,10 @@ class References(Whole):
         held = sys.getrefcount(value)
         for _ in range(50):
             self.assertRaises(OverflowError, made.__setitem__, 2**70, value)
-            self.assertRaises(TypeError, made.__setitem__, 1.5, value)
+            self.assertRaises(TypeError, made.__setitem__, 1j, value)
+            self.assertRaises(TypeError, made.__setitem__, ("a", 1j), value)
+            self.assertRaises(ValueError, made.__setitem__, float("nan"), value)
+            self.assertRaises(OverflowError, made.__setitem__, ("a", 2**70), value)
             self.assertRaises(TypeError, made.get)
             self.assertRaises(TypeError, made.get, 1, value, value)
             self.assertRaises(TypeError, made.pop)
@@ -440,7 +456,9 @@ class RefusedMemory(Whole):
         class Bytes(bytes):
             pass
 
-        for keys in (["tin", "gold", "ä", "\ud800"], [Bytes(b"tin"), b"gold"], [-1, 2**40, True]):
+        addresses = [ipaddress.ip_address(text) for text in ("::", "fe80::1%eth0", "ffff::1")]
+        tuples = [("tin", 1), (Bytes(b"tin"), 1, "\ud800"), (1.5, addresses[0], b"tin" * 40)]
+        for keys in (["tin", "gold", "ä", "\ud800"], [Bytes(b"tin"), b"gold"], [-1, 2**40, True], [1.5, 2.5], addresses, *([it, it[:-1] + (it[-1] * 2,)] for it in tuples[:2])):
             for key in keys:
                 due = {it: 1 for it in keys if it != key}
                 made = SortedMap(due)
@@ -486,7 +504,8 @@ class RefusedMemory(Whole):
             self.assertEqual(outcomes, {ValueError, MemoryError})
 
     def test_a_refused_load_sets_the_first_ones_or_none(self):
-        for keys in ([f"key {number:03}" for number in range(300)], [b"%03d" % number for number in range(300)], list(range(300))):
+        words = [f"key {number:03}" for number in range(300)]
+        for keys in (words, [b"%03d" % number for number in range(300)], list(range(300)), [(word, len(word)) for word in words], [f"{word}\ud800" for word in words]):
             pairs = [(key, key) for key in keys]
             made = SortedMap()
             for _ in self.refused_in_turn(lambda made=made, pairs=pairs: made.update(pairs)):

@@ -1,6 +1,7 @@
 """The tests that Python has for its own mappings."""
 
 import copy
+import ipaddress
 import pickle
 import unittest
 
@@ -22,6 +23,25 @@ class SortedMapProtocol(mapping_tests.TestMappingProtocol):
         made = self._full_mapping(self.reference)
         self.assertEqual(dict(made.popitem() for _ in range(len(made))), self.reference)
         self.assertRaises(KeyError, made.popitem)
+
+
+def protocol_of(keys):
+    """All these tests with three other keys, which the maps of the tests have."""
+
+    class OfKeys(SortedMapProtocol):
+        def _reference(self):
+            return dict(zip(keys, ("2", "value1", (1, 2, 3))))
+
+    return OfKeys
+
+
+BytesProtocol = protocol_of((b"1", b"key1", b"key2"))
+IntProtocol = protocol_of((-1, 0, 2**40))
+FloatProtocol = protocol_of((-1.5, 0.0, float("inf")))
+IPv4Protocol = protocol_of(tuple(map(ipaddress.IPv4Address, (0, 1, 2**32 - 1))))
+IPv6Protocol = protocol_of(tuple(map(ipaddress.IPv6Address, (0, 1, 2**128 - 1))))
+TupleProtocol = protocol_of((("1", 1), ("key1", 1), ("key2", -5)))
+NestedProtocol = protocol_of((((b"1",), 1.5), ((b"key1",), 1.5), ((b"key2",), 0.0)))
 
 
 class SortedMapIteration(unittest.TestCase):

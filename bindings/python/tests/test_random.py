@@ -29,9 +29,9 @@ def outcome(call):
 
 
 class Beside(unittest.TestCase):
-    def run_beside(self, any_key, seed):
+    def run_beside(self, any_key, seed, calls=CALLS):
         choose, ours, theirs = random.Random(seed), SortedMap(), {}
-        for number in range(CALLS):
+        for number in range(calls):
             key, other = any_key(choose), any_key(choose)
             match choose.randrange(12):
                 case 0 | 1 | 2 | 3:

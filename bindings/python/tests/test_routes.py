@@ -44,7 +44,7 @@ def place(network):
 def given(rng, network):
     """A network or an address, as a caller may have it."""
     if isinstance(network, (ipaddress.IPv4Network, ipaddress.IPv6Network)):
-        return rng.choice((network, str(network)))
+        return rng.choice((network, str(network), (given(rng, network.network_address), network.prefixlen)))
     return rng.choice((network, str(network), network.packed))
 
 
@@ -67,7 +67,7 @@ class RandomCalls(unittest.TestCase):
         for call in range(calls):
             there = list(model)
             network = some_network(rng, there)
-            key, kind = given(rng, network), rng.randrange(14)
+            key, kind = given(rng, network), rng.randrange(16)
             if kind < 3 and len(model) < 60:
                 table[key] = model[network] = call
             elif kind < 5:
@@ -99,6 +99,13 @@ class RandomCalls(unittest.TestCase):
                 inside = [it for it in there if network in around([network], it) and it != network]
                 direct = sorted((it for it in inside if around(inside, it) == [it]), key=place)
                 self.assertEqual([read(it) for it in table.direct_children(key)], direct)
+            elif kind == 14:
+                self.assertEqual(table.setdefault(key, call), model.setdefault(network, call))
+            elif kind == 15:
+                self.assertEqual([read(it) for it in reversed(table)], sorted(there, key=place, reverse=True))
+                if there and rng.randrange(4) == 0:
+                    last = max(there, key=place)
+                    self.assertEqual(table.popitem(), (str(last), model.pop(last)))
             elif kind == 12 and rng.randrange(10) == 0:
                 inside = [it for it in there if network in around([network], it)]
                 self.assertEqual(table.remove_covered(key), len(inside))
@@ -200,6 +207,151 @@ class Aggregates(unittest.TestCase):
         self.assertEqual(table.items(), [("10.0.0.0/8", 1)])
 
 
+def below(bits, base, length):
+    """The networks of a length that are inside the last so many addresses of the one with the base."""
+    return list(ipaddress.ip_network((base, ipaddress.ip_address(base).max_prefixlen - bits)).subnets(new_prefix=length))
+
+
+class FreeNetworks(unittest.TestCase):
+    """Beside a scan of all networks of at most six bits behind one address."""
+
+    BASES = ("10.0.0.0", "255.255.255.192", "0.0.0.0", "2001:db8::", "::", "ffff:ffff:ffff:ffff:ffff:ffff:ffff:ffc0")
+
+    def test_free_networks_are_those_that_a_scan_finds(self):
+        rng = random.Random(6)
+        for _ in range(CALLS // 100):
+            base = rng.choice(self.BASES)
+            bits = ipaddress.ip_address(base).max_prefixlen
+            all_of = {length: below(6, base, length) for length in range(bits - 6, bits + 1)}
+            taken = [rng.choice(all_of[rng.randrange(bits - rng.randrange(1, 7), bits + 1)]) for _ in range(rng.randrange(8))]
+            table = RouteTable({it: 1 for it in taken})
+            network = rng.choice(all_of[rng.randrange(bits - 6, bits + 1)])
+            for length in range(bits - 6, bits + 1):
+                due = [str(it) for it in all_of[length] if it.subnet_of(network) and not any(it.overlaps(other) for other in taken)]
+                self.assertEqual(list(table.free(given(rng, network), length)), due)
+
+    def test_networks_that_are_taken_between_two_steps(self):
+        table = RouteTable({"10.0.0.0/30": 0})
+        given_out = []
+        for network in table.free("10.0.0.0/28", 31):
+            given_out.append(network)
+            if network == "10.0.0.4/31":
+                table["10.0.0.6/31"] = table["10.0.0.8/30"] = 1
+            if network == "10.0.0.12/31":
+                del table["10.0.0.0/30"]
+        self.assertEqual(given_out, ["10.0.0.4/31", "10.0.0.12/31", "10.0.0.14/31"])
+        # The next one that is free, each time anew.
+        for due in ("10.0.0.0/31", "10.0.0.2/31", "10.0.0.4/31"):
+            network = next(table.free("10.0.0.0/28", 31))
+            table[network] = 2
+            self.assertEqual(network, due)
+
+    def test_many_are_found_one_by_one(self):
+        walk = RouteTable({"::/65": 1}).free("::/0", 128)
+        self.assertEqual([next(walk), next(walk)], ["::8000:0:0:0/128", "::8000:0:0:1/128"])
+        self.assertEqual(len(list(RouteTable().free("10.0.0.0/16", 28))), 4096)
+
+    def test_what_is_no_network_and_no_length(self):
+        table = RouteTable()
+        for length in (-1, 33, 128):
+            self.assertRaisesRegex(ValueError, f"32 bits has no length {length}", table.free, "10.0.0.0/8", length)
+        self.assertRaises(ValueError, table.free, "10.0.0.1/8", 16)
+        self.assertRaises(TypeError, table.free, "10.0.0.0/8", "16")
+        self.assertRaises(TypeError, table.free, "10.0.0.0/8")
+        self.assertRaises(OverflowError, table.free, "10.0.0.0/8", 2**70)
+        self.assertEqual(list(table.free("10.0.0.0/8", 7)), [])
+        self.assertEqual(list(table.free(network="10.0.0.1", length=32)), ["10.0.0.1/32"])
+
+    def test_a_walk_keeps_its_table(self):
+        table = RouteTable({"10.0.0.0/9": 1})
+        walk, seen = table.free("10.0.0.0/8", 9), weakref.ref(table)
+        del table
+        self.assertEqual((list(walk), list(walk)), (["10.128.0.0/9"], []))
+        gc.collect()
+        self.assertIsNone(seen())
+
+
+class Differences(unittest.TestCase):
+    def test_differences_are_those_of_two_dicts(self):
+        rng = random.Random(7)
+        for _ in range(CALLS // 20):
+            old = {}
+            for _ in range(rng.randrange(12)):
+                old[some_network(rng, list(old))] = rng.randrange(3)
+            new = dict(old)
+            for _ in range(rng.randrange(8)):
+                network = some_network(rng, list(new))
+                if rng.randrange(2):
+                    new.pop(network, None)
+                else:
+                    new[network] = rng.randrange(3)
+            due = []
+            for it in sorted(old.keys() | new.keys(), key=place):
+                if it not in new:
+                    due.append(("remove", str(it), old[it]))
+                elif it not in old:
+                    due.append(("insert", str(it), new[it]))
+                elif old[it] != new[it]:
+                    due.append(("replace", str(it), new[it]))
+            table, other = RouteTable(old), RouteTable(new)
+            changes = table.difference(other)
+            self.assertEqual([(change, str(read(it)), value) for change, it, value in changes], due)
+            for change, network, value in changes:
+                if change == "remove":
+                    self.assertEqual(table.pop(network), value)
+                else:
+                    self.assertEqual(table.has_key(network), change == "replace")
+                    table[network] = value
+            self.assertEqual((table, table.difference(other)), (other, []))
+
+    def test_values_that_are_one_or_equal(self):
+        nan = float("nan")
+        table = RouteTable({"10.0.0.0/8": nan, "10.0.0.0/9": [1], "::/0": None})
+        self.assertEqual(table.difference(RouteTable({"10.0.0.0/8": nan, "10.0.0.0/9": [1], "::/0": None})), [])
+        self.assertEqual(table.difference(RouteTable({"::/0": 0})), [("remove", "10.0.0.0/8", nan), ("remove", "10.0.0.0/9", [1]), ("replace", "::/0", 0)])
+        self.assertEqual(table.difference(table), [])
+        for other in (None, {}, {"10.0.0.0/8": 1}, []):
+            self.assertRaisesRegex(TypeError, "the new one is a RouteTable", table.difference, other)
+
+    def test_a_value_that_changes_the_tables_as_it_is_compared(self):
+        table, other = RouteTable(), RouteTable()
+
+        class Value:
+            def __eq__(self, _):
+                table.clear()
+                other.update({"::/0": 1})
+                return False
+
+        for at in range(5):
+            table[f"10.{at}.0.0/16"], other[f"10.{at}.0.0/16"] = Value(), at
+        self.assertEqual(table.difference(other), [("replace", f"10.{at}.0.0/16", at) for at in range(5)])
+        self.assertEqual((len(table), len(other)), (0, 6))
+
+    def test_a_collector_that_changes_the_tables(self):
+        self.addCleanup(gc.set_threshold, *gc.get_threshold())
+        rng, tables = random.Random(13), (RouteTable(), RouteTable())
+
+        class Garbage:
+            def __init__(self):
+                self.itself = self
+
+            def __del__(self):
+                for table in tables:
+                    table.pop(some_network(rng, table.keys()), None)
+                    table.setdefault(some_network(rng, ()), object())
+
+        for number in range(500):
+            gc.set_threshold(1 + number % 5)
+            Garbage()
+            tables[0].difference(tables[1])
+            list(reversed(tables[0])), list(zip(range(9), tables[1].free("10.0.0.0/8", 16)))
+        gc.set_threshold(0)
+        gc.collect()
+        for table in tables:
+            self.assertEqual(list(reversed(table)), table.keys()[::-1])
+            self.assertEqual(len(table), len(table.values()))
+
+
 @unittest.skipIf(radix is None, "there is no python3-radix")
 class BesideRadix(unittest.TestCase):
     def test_calls_do_what_radix_does(self):
@@ -245,10 +397,39 @@ class Calls(unittest.TestCase):
         table.insert("10.1.0.0/16", "lab")
         table.insert(network="10.1.0.0/16", value="other")
         self.assertEqual((table["10.1.2.3"], len(table)), ("other", 3))
+        table.insert("10.1.0.0", 16, "by its length")
+        table.insert(ipaddress.ip_address("10.1.0.0"), 16, None)
+        self.assertEqual((table["10.1.2.3"], len(table), table.has_key((bytes([10, 1, 0, 0]), 16))), (None, 3, True))
+        self.assertRaises(ValueError, table.insert, "10.1.0.0/16", 16, 1)
         del table["10.1.0.0/16"]
         self.assertEqual(table["10.1.2.3"], "office")
         self.assertRaises(KeyError, table.__delitem__, "10.1.0.0/16")
         self.assertRaises(KeyError, table.pop, "10.1.0.0/16")
+
+    def test_calls_of_a_dict(self):
+        table = RouteTable({"10.0.0.0/8": 8, "::/0": 6})
+        self.assertEqual((table.setdefault("10.0.0.0/8", 1), table.setdefault("10.1.0.0/16", 16), table.setdefault("11.0.0.0/8")), (8, 16, None))
+        self.assertEqual(list(reversed(table)), ["::/0", "11.0.0.0/8", "10.1.0.0/16", "10.0.0.0/8"])
+        table.update()
+        self.assertEqual([table.popitem() for _ in range(4)], [("::/0", 6), ("11.0.0.0/8", None), ("10.1.0.0/16", 16), ("10.0.0.0/8", 8)])
+        self.assertRaises(KeyError, table.popitem)
+        for arguments in ((), ("::/0", 1, 2)):
+            self.assertRaises(TypeError, table.setdefault, *arguments)
+        self.assertRaises(ValueError, table.setdefault, "10.0.0.1/8", 1)
+        self.assertEqual((len(table), list(reversed(table))), (0, []))
+
+    def test_a_default_that_is_set_is_held_once(self):
+        class Value:
+            pass
+
+        table, values = RouteTable(), [Value(), Value()]
+        seen = [weakref.ref(it) for it in values]
+        for value in values:
+            self.assertIs(table.setdefault("::/0", value), values[0])
+        del values, value
+        self.assertEqual([it() is None for it in seen], [False, True])
+        table.clear()
+        self.assertIsNone(seen[0]())
 
     def test_the_families_never_match_each_other(self):
         table = RouteTable([("0.0.0.0/0", 4)])
@@ -259,16 +440,19 @@ class Calls(unittest.TestCase):
     def test_what_is_no_network_is_a_value_error(self):
         bad = ["", "x", "10", "10.0.0", "10.0.0.0/", "10.0.0.0/33", "10.0.0.1/8", "10.0.0.0/+8", "10.0.0.0/-1", "10.0.0.0/8/8"]
         bad += ["::/129", "::1/64", "1::2::3", "10.0.0.0\0", "10.0.0.0/8\0", "10.0.0.0/1000", "\ud800", "1" * 90, b"abc", b""]
+        bad += [(), ("10.0.0.0",), ("10.0.0.0", 8, 1), ("10.0.0.0", 33), ("10.0.0.1", 8), ("10.0.0.0", -1), ("10.0.0.0", "8"), ("10.0.0.0", None)]
+        bad += [("10.0.0.0/8", 8), (("10.0.0.0", 32), 32), ("x", 8), (b"abc", 8), ("::", 129), ("::", 2**70)]
         bad += ["10.0.0.256", "010.0.0.0", "::1%eth0", " 10.0.0.0", "10.0.0.0/8 "]
         table = RouteTable({"10.0.0.0/8": 1})
         calls = [table.__getitem__, table.get, table.has_key, table.get_key, table.pop, table.parent, table.children]
         calls += [table.__contains__, table.__delitem__, lambda key: table.__setitem__(key, 1), lambda key: table.get_many([key])]
+        calls += [lambda key: table.free(key, 32), lambda key: table.setdefault(key, 1)]
         for key in bad:
             for call in calls:
                 self.assertRaises(ValueError, call, key)
         for network in ("10.0.0.0/8", ipaddress.ip_network("10.0.0.0/8")):
             self.assertRaisesRegex(ValueError, "an address is needed", table.get_many, ["10.0.0.1", network])
-        for key in (5, None, 1.5, ("10.0.0.0", 8)):
+        for key in (5, None, 1.5, (10, 8), ["10.0.0.0", 8]):
             for call in calls:
                 self.assertRaises(TypeError, call, key)
         self.assertEqual(table.items(), [("10.0.0.0/8", 1)])
@@ -356,7 +540,8 @@ class Calls(unittest.TestCase):
 def calls_of(table):
     """The calls that take one key."""
     calls = [table.__getitem__, table.get, table.has_key, table.get_key, table.pop, table.delete, table.parent, table.children]
-    return [*calls, table.__contains__, lambda key: table.insert(key, "new"), lambda key: table.get_many(["10.9.9.9", key])]
+    calls += [table.__contains__, lambda key: table.insert(key, "new"), lambda key: table.get_many(["10.9.9.9", key])]
+    return [*calls, lambda key: table.setdefault(key, "new"), lambda key: list(table.free(key, 8))]
 
 
 CHANGES = (

@@ -1,9 +1,8 @@
-"""A sorted mapping of bytes, str or int to any objects, and route tables, over a library whose functions are formally verified.
+"""A sorted mapping and a sorted set, and route tables, over a library whose functions are formally verified.
 
 The entries are held in C, by `_in_c`, which has the library inside."""
 
-from collections.abc import ItemsView, Iterable, KeysView, Mapping, MutableMapping, Sequence, ValuesView
-from operator import index as index_of
+from collections.abc import ItemsView, Iterable, KeysView, Mapping, MutableMapping, MutableSet, Sequence, Set, ValuesView
 from reprlib import recursive_repr
 
 try:
@@ -13,7 +12,7 @@ except ImportError as missing:
         "verified_art is not compiled here: install its wheel, or `pip install` the folder that it comes from where there is a C compiler"
     ) from missing
 
-__all__ = ["RouteTable", "SortedMap"]
+__all__ = ["RouteTable", "SortedMap", "SortedSet"]
 __version__ = _core.__version__
 
 
@@ -46,10 +45,10 @@ class _Ordered(Sequence):
             del self._mapping[key]
 
     def __iter__(self):
-        return self._mapping._slice(self._given, 0, len(self), False)
+        return self._mapping._walk(self._given, False)
 
     def __reversed__(self):
-        return self._mapping._slice(self._given, 0, len(self), True)
+        return self._mapping._walk(self._given, True)
 
     def index(self, value, start=None, stop=None):
         """The first index of a value between two, else ValueError. Takes time linear in the number of entries."""
@@ -104,18 +103,14 @@ class _Values(_Ordered, ValuesView):
 
 
 def _pairs_of(other):
-    """The pairs of a mapping, those of a dict in the order of its keys where these are of one type; or of pairs, these. They
-    are a list where no other code runs meanwhile: so they are set faster."""
+    """The pairs of a mapping, or of pairs, these."""
+    if type(other) in (dict, SortedMap):
+        return other
     if isinstance(other, SortedMap):
-        return list(other.items())
-    if type(other) is dict:
-        kinds = set(map(type, other))
-        if len(kinds) == 1 and kinds <= {bytes, str, int}:
-            return [(key, other[key]) for key in sorted(other)]
         return list(other.items())
     if isinstance(other, Mapping) or hasattr(other, "keys"):
         return ((key, other[key]) for key in other.keys())
-    return list(other) if type(other) is tuple else _iterable(other, "SortedMap")
+    return _iterable(other, "SortedMap")
 
 
 def _iterable(pairs, made):
@@ -128,86 +123,32 @@ def _iterable(pairs, made):
 class SortedMap(_core.Core, MutableMapping):
     """SortedMap(), SortedMap(mapping), SortedMap(pairs), SortedMap(name=value, ..): a dict in the order of its keys.
 
-    All keys are bytes, all str, or all int of 64 bits with a sign: the first key decides, until the map is cleared.
-    Another type is a TypeError, also in a look-up; to set an int beyond 64 bits is an OverflowError, and to look for one
-    finds nothing. Where an entry is added or removed during an iteration, its next step is a RuntimeError, as of dict.
-    A look-up takes time linear in the bytes of the key, whatever the number of entries.
+    All keys are of one form: str, bytes, int of 64 bits with a sign, float, IPv4Address or IPv6Address, or tuples whose parts
+    are each of one form. The first key decides, until the map is cleared. Another one is a TypeError, also in a look-up; to set
+    an int beyond 64 bits is an OverflowError, and NaN a ValueError, and to look for one finds nothing. Where an entry is added
+    or removed during an iteration, its next step is a RuntimeError, as of dict. A look-up takes time linear in the bytes of the
+    key, whatever the number of entries.
 
-    Calls that take or return an index count entries: they take time linear in the distance from the nearer end."""
+    Calls that take or return an index count entries: right after a change they take time linear in the distance from the nearer
+    end, and else its logarithm."""
 
     __slots__ = ("__weakref__",)
 
     def __init__(self, other=(), /, **named):
+        if not self and type(other) not in _AT_ONCE and not hasattr(other, "keys"):
+            other = _read_out(_iterable(other, "SortedMap"), self.update)
         self.update(other, **named)
 
     def update(self, other=(), /, **named):
-        """Sets the entries of a mapping or of pairs, then the named ones. Those of a dict are set in the order of its keys.
+        """Sets the entries of a mapping or of pairs, then the named ones.
 
         Where an exception ends it, the entries before the one that is refused are set, and no others."""
         if type(self).__setitem__ is not SortedMap.__setitem__:
             super().update(other, **named)
             return
-        self._set_each(_pairs_of(other))
+        self._set_each(other if type(other) in _AT_ONCE else _pairs_of(other))
         if named:
-            self._set_each(_pairs_of(named))
-
-    def irange(self, minimum=None, maximum=None, inclusive=(True, True), reverse=False):
-        """The keys between two keys, in their order or the reverse; None is no bound."""
-        try:
-            with_minimum, with_maximum = inclusive
-        except (TypeError, ValueError):
-            raise TypeError("inclusive is a pair of booleans, for the minimum and for the maximum, as (True, False)") from None
-        return self._range(_KEYS, minimum, maximum, with_minimum, with_maximum, reverse)
-
-    def prefix(self, prefix, reverse=False):
-        """The keys that begin with a prefix, of bytes or str."""
-        return self._prefixed(_KEYS, prefix, reverse)
-
-    def islice(self, start=None, stop=None, reverse=False):
-        """The keys from one index up to before another, in their order or the reverse; None is no bound. Takes time
-        linear in the distance of the first one from the nearer end."""
-        low, high, _ = slice(start, stop).indices(len(self))
-        return self._slice(_KEYS, low, high, reverse)
-
-    def bisect_left(self, key):
-        """The index of the first key at or after this one. Takes time linear in its distance from the nearer end."""
-        return self._rank(key, False)
-
-    def bisect_right(self, key):
-        """The index of the first key after this one. Takes time linear in its distance from the nearer end."""
-        return self._rank(key, True)
-
-    bisect = bisect_right
-
-    def index(self, key, start=None, stop=None):
-        """The index of a key, which is between two where they are given, else ValueError. Takes time linear in its
-        distance from the nearer end."""
-        if key in self:
-            at, (low, high, _) = self._rank(key, False), slice(start, stop).indices(len(self))
-            if low <= at < high:
-                return at
-        raise ValueError(f"{key!r} is not in the map")
-
-    def _at(self, given, index):
-        """What a walk gives of the entry at an index."""
-        count = len(self)
-        at = index_of(index)
-        at = at + count if at < 0 else at
-        if not 0 <= at < count:
-            raise IndexError("SortedMap index out of range")
-        return next(self._slice(given, at, at + 1, at >= count // 2))
-
-    def peekitem(self, index=-1):
-        """The key and value at an index. Takes time linear in its distance from the nearer end."""
-        return self._at(_ITEMS, index)
-
-    def popitem(self, index=-1, *, last=True):
-        """Removes the entry at an index, or with `last=False` the first one, and returns its key and value. Takes time
-        linear in its distance from the nearer end."""
-        if not self:
-            raise KeyError("popitem(): the map is empty")
-        key = self._at(_KEYS, index if last else 0)
-        return key, self.pop(key)
+            self._set_each(named)
 
     def keys(self):
         """The keys: a set, and a sequence in their order."""
@@ -230,8 +171,18 @@ class SortedMap(_core.Core, MutableMapping):
     def fromkeys(cls, keys, value=None):
         """A map from each of these keys to one value."""
         made = cls()
-        made.update([(key, value) for key in keys])
+        if isinstance(made, SortedMap) and type(made).__setitem__ is SortedMap.__setitem__:
+            made._set_keys(keys if type(keys) in (list, tuple) else list(keys), value)
+        else:
+            made.update([(key, value) for key in keys])
         return made
+
+    def __eq__(self, other):
+        if not isinstance(other, Mapping):
+            return NotImplemented
+        return len(self) == len(other) and self._equals(other if type(other) is dict else dict(other.items()))
+
+    __hash__ = None
 
     def __or__(self, other):
         if not isinstance(other, Mapping):
@@ -260,28 +211,249 @@ class SortedMap(_core.Core, MutableMapping):
         return f"{type(self).__name__}({{{entries}}})"
 
 
+# What is set by one call of the library, since no other code runs meanwhile.
+_AT_ONCE = (dict, list, tuple, SortedMap)
+
+
+def _read_out(steps, update):
+    """All that an iterable gives, in a list; where it raises, what it gave is set."""
+    read = []
+    try:
+        read.extend(steps)
+    except BaseException:
+        update(read)
+        raise
+    return read
+
+
+# ---- the set
+
+# Which keys of two sets are wanted.
+_OF_FIRST, _OF_BOTH, _OF_SECOND = 1, 2, 4
+
+
+class SortedSet(_core.SetCore, MutableSet, Sequence):
+    """SortedSet(), SortedSet(keys): a set in the order of its keys, which are of one form as those of a SortedMap.
+
+    It is a sequence too: `keys[0]`, `keys[-1]`, `keys[2:5]`. Right after a change, calls by an index take time linear in the
+    distance from the nearer end, and else its logarithm."""
+
+    __slots__ = ("__weakref__",)
+
+    def __init__(self, keys=(), /):
+        if not self and type(keys) not in _SETS_AT_ONCE:
+            keys = _read_out(_iterable(keys, "SortedSet"), self.update)
+        self.update(keys)
+
+    def update(self, *others):
+        """Adds all keys of these."""
+        for keys in others:
+            if type(self).add is not SortedSet.add:
+                for key in list(keys) if keys is self else keys:
+                    self.add(key)
+            else:
+                self._add_each(list(keys) if type(keys) in (set, frozenset, dict) else _iterable(keys, "SortedSet"))
+
+    def __getitem__(self, index):
+        """The key at an index, or a list of those of a slice."""
+        if not isinstance(index, slice):
+            return self._at(_KEYS, index)
+        wanted = range(len(self))[index]
+        if not wanted:
+            return []
+        low, high = sorted((wanted[0], wanted[-1]))
+        return list(self._slice(_KEYS, low, high + 1, wanted.step < 0))[:: abs(wanted.step)]
+
+    def __delitem__(self, index):
+        """Removes the key at an index, or those of a slice."""
+        for key in self[index] if isinstance(index, slice) else [self[index]]:
+            self.remove(key)
+
+    def count(self, key):
+        """1 for a key of the set, else 0."""
+        return int(key in self)
+
+    def copy(self):
+        return type(self)(self)
+
+    def _made_of(self, keys):
+        return type(self)(keys)
+
+    def _chosen(self, other, which):
+        """The keys of this set and of another one that are wanted, in a list."""
+        if isinstance(other, SortedSet):
+            chosen = self._merged(other, which)
+            if chosen is not None:
+                return chosen
+        there = other if isinstance(other, (set, frozenset)) else set(other)
+        chosen = self._chosen_by(there, which)
+        if which & _OF_SECOND:
+            chosen.extend(there.difference(self))
+        return chosen
+
+    def union(self, *others):
+        """A set of the keys that are in this one or in one of these."""
+        keys = list(self)
+        for other in others:
+            keys.extend(_iterable(other, "SortedSet"))
+        return self._made_of(keys)
+
+    def intersection(self, *others):
+        """A set of the keys that are in this one and in each of these."""
+        made = self
+        for other in others:
+            made = made._made_of(made._chosen(other, _OF_BOTH))
+        return self.copy() if made is self else made
+
+    def difference(self, *others):
+        """A set of the keys that are in this one and in none of these."""
+        made = self
+        for other in others:
+            made = made._made_of(made._chosen(other, _OF_FIRST))
+        return self.copy() if made is self else made
+
+    def symmetric_difference(self, other):
+        """A set of the keys that are in one of the two alone."""
+        return self._made_of(self._chosen(other, _OF_FIRST | _OF_SECOND))
+
+    def _keep(self, made):
+        """Removes the keys that are not in another set."""
+        for key in self._chosen(made, _OF_FIRST):
+            self.discard(key)
+
+    def intersection_update(self, *others):
+        """Removes the keys that are not in each of these."""
+        self._keep(self.intersection(*others))
+
+    def difference_update(self, *others):
+        """Removes the keys that are in one of these."""
+        for other in others:
+            for key in self._chosen(other, _OF_BOTH):
+                self.discard(key)
+
+    def symmetric_difference_update(self, other):
+        """Leaves the keys that are in one of the two alone."""
+        made = self.symmetric_difference(other)
+        self._keep(made)
+        self.update(made)
+
+    def isdisjoint(self, other):
+        """Whether no key is in both."""
+        return not self._chosen(other, _OF_BOTH)
+
+    def issubset(self, other):
+        """Whether each key is in the other one."""
+        return not self._chosen(other, _OF_FIRST)
+
+    def issuperset(self, other):
+        """Whether each key of the other one is in this one."""
+        if isinstance(other, SortedSet):
+            return other.issubset(self)
+        there = other if isinstance(other, (set, frozenset)) else set(other)
+        return len(there) <= len(self) and self._chosen_by(there, 0) == len(there)
+
+    def __or__(self, other):
+        return self.union(other) if isinstance(other, Set) else NotImplemented
+
+    def __ror__(self, other):
+        return self.union(other) if isinstance(other, Set) else NotImplemented
+
+    def __and__(self, other):
+        return self.intersection(other) if isinstance(other, Set) else NotImplemented
+
+    __rand__ = __and__
+
+    def __sub__(self, other):
+        return self.difference(other) if isinstance(other, Set) else NotImplemented
+
+    def __rsub__(self, other):
+        return self._made_of(other).difference(self) if isinstance(other, Set) else NotImplemented
+
+    def __xor__(self, other):
+        return self.symmetric_difference(other) if isinstance(other, Set) else NotImplemented
+
+    __rxor__ = __xor__
+
+    def __ior__(self, other):
+        if not isinstance(other, Set):
+            return NotImplemented
+        self.update(other)
+        return self
+
+    def __iand__(self, other):
+        if not isinstance(other, Set):
+            return NotImplemented
+        self.intersection_update(other)
+        return self
+
+    def __isub__(self, other):
+        if not isinstance(other, Set):
+            return NotImplemented
+        self.difference_update(other)
+        return self
+
+    def __ixor__(self, other):
+        if not isinstance(other, Set):
+            return NotImplemented
+        self.symmetric_difference_update(other)
+        return self
+
+    def __eq__(self, other):
+        return len(self) == len(other) and self.issubset(other) if isinstance(other, Set) else NotImplemented
+
+    def __le__(self, other):
+        return len(self) <= len(other) and self.issubset(other) if isinstance(other, Set) else NotImplemented
+
+    def __lt__(self, other):
+        return len(self) < len(other) and self.issubset(other) if isinstance(other, Set) else NotImplemented
+
+    def __ge__(self, other):
+        return len(self) >= len(other) and self.issuperset(other) if isinstance(other, Set) else NotImplemented
+
+    def __gt__(self, other):
+        return len(self) > len(other) and self.issuperset(other) if isinstance(other, Set) else NotImplemented
+
+    __hash__ = None
+
+    def __reduce__(self):
+        return type(self), (list(self),), getattr(self, "__dict__", None) or None
+
+    def __repr__(self):
+        return f"{type(self).__name__}([{', '.join(map(repr, self))}])"
+
+
+# What is added by one call of the library.
+_SETS_AT_ONCE = (list, tuple, set, frozenset, dict, SortedSet, SortedMap)
+
+
 # ---- route tables
+
+
+# What no caller has.
+_NO_VALUE = object()
 
 
 class RouteTable(_core.Routes):
     """RouteTable(), RouteTable(mapping), RouteTable(pairs): values by IPv4 and IPv6 networks, of which the longest match of an
-    address is found; with the calls of `pytricia` but for `freeze` and `thaw`, for both families in one table.
+    address is found, for both families in one table. The calls are those of `pytricia`, but for `freeze` and `thaw`, a table's
+    size and its raw output, and `int` keys.
 
-    A network is a str as "10.0.0.0/8", or an `ipaddress.IPv4Network` or `IPv6Network`. An address is a str, what `ipaddress`
-    makes, or 4 or 16 bytes, and a network of all its bits. `table[..]`, `get`, `get_key` and `in` find the longest route that
-    contains an address, or covers a network, and `get_many` that of each address; `has_key`, `pop`, `del` and setting are of
-    this very network. Networks come out as str, those of IPv4 first, then by their first addresses, then the shorter ones
-    first. IPv4 and IPv6 never match each other. What is no network, or has a bit set behind its length, which `pytricia`
-    clears, is a ValueError. `children` and `parent` are also of a network without a route, for which `pytricia` has a KeyError.
+    A network is a str as "10.0.0.0/8", an `ipaddress.IPv4Network` or `IPv6Network`, or a pair of an address and a length. An
+    address is a str, what `ipaddress` makes, or 4 or 16 bytes, and a network of all its bits. `table[..]`, `get`, `get_key` and
+    `in` find the longest route that contains an address, or covers a network, and `get_many` that of each address; `has_key`,
+    `pop`, `setdefault`, `del` and setting are of this very network. Networks come out as str, those of IPv4 first, then by their
+    first addresses, then the shorter ones first. IPv4 and IPv6 never match each other. What is no network, or has a bit set
+    behind its length, which `pytricia` clears, is a ValueError. `children` and `parent` are also of a network without a route,
+    for which `pytricia` has a KeyError.
 
-    Routes may be set and removed during an iteration, which goes on behind the last network that it gave."""
+    Routes may be set and removed during an iteration, which goes on behind the last network that it gave, as that of `free` does."""
 
     __slots__ = ("__weakref__",)
 
     def __init__(self, other=(), /):
         self.update(other)
 
-    def update(self, other):
+    def update(self, other=(), /):
         """Sets the routes of a mapping or of pairs."""
         for pair in other.items() if hasattr(other, "items") else _iterable(other, "RouteTable"):
             try:
@@ -290,9 +462,12 @@ class RouteTable(_core.Routes):
                 raise ValueError(f"a pair of a network and a value is needed, and not {pair!r}") from None
             self[network] = value
 
-    def insert(self, network, value):
-        """Sets the value of this very network."""
-        self[network] = value
+    def insert(self, network, value, of_length=_NO_VALUE):
+        """insert(network, value), or insert(address, length, value): sets the value of this very network."""
+        if of_length is _NO_VALUE:
+            self[network] = value
+        else:
+            self[network, value] = of_length
 
     def delete(self, network):
         """Removes the route to this very network, else raises KeyError."""
@@ -300,7 +475,11 @@ class RouteTable(_core.Routes):
 
     def __iter__(self):
         """The networks, in order."""
-        return self._walk(_KEYS, None)
+        return self._walk(_KEYS, None, False)
+
+    def __reversed__(self):
+        """The networks, from the last one down."""
+        return self._walk(_KEYS, None, True)
 
     def keys(self):
         """The networks in order, in a list."""
@@ -308,16 +487,32 @@ class RouteTable(_core.Routes):
 
     def values(self):
         """The values in the order of their networks, in a list."""
-        return list(self._walk(_VALUES, None))
+        return list(self._walk(_VALUES, None, False))
 
     def items(self):
         """The pairs of networks and values in order, in a list."""
-        return list(self._walk(_ITEMS, None))
+        return list(self._walk(_ITEMS, None, False))
 
     def children(self, network):
         """The networks of the routes inside a network, but for the one to it, in order, in a list."""
-        inside = self._walk(_KEYS, network)
+        inside = self._walk(_KEYS, network, False)
         return list(inside)[1 if self.has_key(network) else 0 :]
+
+    def popitem(self):
+        """Removes the last route in order, and returns its network and value, else raises KeyError."""
+        for network in reversed(self):
+            return network, self.pop(network)
+        raise KeyError("popitem(): the table is empty")
+
+    def difference(self, new):
+        """The changes that make this table the new one, in the order of their networks, in a list: ("insert", network, value),
+        ("remove", network, value) with the value here, or ("replace", network, value) with the new one. Values are the same
+        where they are one object or equal."""
+        changes = []
+        for change, network, before, after in self._differences(new):
+            if change != "replace" or not (before is after or before == after):
+                changes.append((change, network, before if change == "remove" else after))
+        return changes
 
     def aggregate(self):
         """Leaves fewer routes by which each address has the value that it had, or one that is equal, and none where none

@@ -1,8 +1,7 @@
 /* The routes of a RouteTable: the library's table has the place of each value. */
 #ifndef ROUTES_H
 #define ROUTES_H
-#include <arpa/inet.h>
-#include <stdio.h>
+#include "_networks.h"
 
 #define NO_PLACE SIZE_MAX
 
@@ -14,173 +13,7 @@ typedef struct {
     Py_ssize_t count;
 } Routes;
 
-typedef struct {
-    uint8_t address[16];
-    size_t width;
-    unsigned length;
-} Net;
-
-typedef struct {
-    PyObject_HEAD
-    Routes *routes; /* NULL: at its end */
-    Net at, within;
-    bool begun, all;
-    Given given;
-} RouteWalk;
-
-static PyTypeObject *routes_type, *route_walk_type;
-
-/* ---- networks */
-
-static int no_network(PyObject *key) {
-    PyErr_Format(PyExc_ValueError, "%R is no network: an address and how many of its first bits are given, with none set behind these", key);
-    return -1;
-}
-
-static unsigned bits_of(const Net *net) { return 8 * (unsigned)net->width; }
-
-/* An address, alone or with a `/` and a length. */
-static int read_text(PyObject *key, Net *net) {
-    Py_ssize_t size;
-    const char *text = PyUnicode_AsUTF8AndSize(key, &size);
-    if (!text) {
-        /* Lone surrogates. */
-        if (!PyErr_ExceptionMatches(PyExc_UnicodeEncodeError)) return -1;
-        PyErr_Clear();
-        return no_network(key);
-    }
-    const char *slash = memchr(text, '/', (size_t)size);
-    size_t len = slash ? (size_t)(slash - text) : (size_t)size;
-    char address[64];
-    if (len >= sizeof address || memchr(text, 0, (size_t)size)) return no_network(key);
-    memcpy(address, text, len);
-    address[len] = 0;
-    bool is_six = memchr(address, ':', len);
-    if (inet_pton(is_six ? AF_INET6 : AF_INET, address, net->address) != 1) return no_network(key);
-    net->width = is_six ? 16 : 4;
-    net->length = bits_of(net);
-    if (slash) {
-        const char *digit = slash + 1;
-        net->length = 0;
-        if (!*digit || strlen(digit) > 3) return no_network(key);
-        for (; *digit; digit++) {
-            if (*digit < '0' || *digit > '9') return no_network(key);
-            net->length = 10 * net->length + (unsigned)(*digit - '0');
-        }
-        if (net->length > bits_of(net)) return no_network(key);
-    }
-    return 0;
-}
-
-/* The bytes of an address. */
-static int read_bytes(PyObject *key, PyObject *bytes, Net *net) {
-    char *start;
-    Py_ssize_t size;
-    if (!PyBytes_Check(bytes) || PyBytes_AsStringAndSize(bytes, &start, &size) < 0 || (size != 4 && size != 16)) {
-        PyErr_Clear();
-        return no_network(key);
-    }
-    memcpy(net->address, start, (size_t)size);
-    net->width = (size_t)size;
-    net->length = bits_of(net);
-    return 0;
-}
-
-/* -1 with an error set, as an attribute is not there. Another error of it stands. */
-static int no_attribute(PyObject *key) {
-    if (PyErr_ExceptionMatches(PyExc_AttributeError)) {
-        PyErr_Clear();
-        PyErr_Format(PyExc_TypeError, "a network is a str, or of `ipaddress`, and not %R", (PyObject *)Py_TYPE(key));
-    }
-    return -1;
-}
-
-static int read_length(PyObject *key, Net *net) {
-    PyObject *prefixlen = PyObject_GetAttrString(key, "prefixlen");
-    if (!prefixlen) return no_attribute(key);
-    long length = PyLong_AsLong(prefixlen);
-    Py_DECREF(prefixlen);
-    if (length == -1 && PyErr_Occurred()) {
-        if (!PyErr_ExceptionMatches(PyExc_TypeError) && !PyErr_ExceptionMatches(PyExc_OverflowError)) return -1;
-        PyErr_Clear();
-    }
-    if (length < 0 || length > (long)bits_of(net)) return no_network(key);
-    net->length = (unsigned)length;
-    return 0;
-}
-
-/* Reads a network or an address: a str, bytes, or what `ipaddress` makes, whose attributes may run any code. So may each
-   error that shows a key: a call makes it once the table is whole. */
-static int read_net(PyObject *key, Net *net) {
-    if (PyUnicode_Check(key)) return read_text(key, net);
-    if (PyBytes_Check(key)) return read_bytes(key, key, net);
-    PyObject *network = PyObject_GetAttrString(key, "network_address");
-    if (!network) {
-        if (!PyErr_ExceptionMatches(PyExc_AttributeError)) return -1;
-        PyErr_Clear();
-    }
-    PyObject *packed = PyObject_GetAttrString(network ? network : key, "packed");
-    int done = packed ? read_bytes(key, packed, net) : no_attribute(key);
-    if (done == 0 && network) done = read_length(key, net);
-    Py_XDECREF(packed);
-    Py_XDECREF(network);
-    return done;
-}
-
-/* Reads an address. */
-static int read_address(PyObject *key, Net *net) {
-    if (read_net(key, net) < 0) return -1;
-    if (net->length == bits_of(net)) return 0;
-    PyErr_Format(PyExc_ValueError, "an address is needed, and not the network %R", key);
-    return -1;
-}
-
-/* Leaves the first bits, so many of them. */
-static void cut(Net *net, unsigned length) {
-    for (unsigned at = 0; at < net->width; at++) {
-        unsigned kept = length > 8 * at ? length - 8 * at : 0;
-        if (kept < 8) net->address[at] &= (uint8_t)~(0xFFu >> kept);
-    }
-    net->length = length;
-}
-
-static bool covers(const Net *net, Net other) {
-    if (net->width != other.width || net->length > other.length) return false;
-    cut(&other, net->length);
-    return memcmp(net->address, other.address, net->width) == 0;
-}
-
-/* The text of a network, as `ipaddress` has it. */
-static PyObject *text_of(const Net *net) {
-    char text[64];
-    const uint8_t *a = net->address;
-    if (net->width == 4) {
-        snprintf(text, sizeof text, "%u.%u.%u.%u/%u", a[0], a[1], a[2], a[3], net->length);
-        return PyUnicode_FromString(text);
-    }
-    /* The longest run of two groups or more that are zero, the first of the longest. */
-    unsigned groups[8], begin = 8, longest = 1, run = 0;
-    for (unsigned at = 0; at < 8; at++) {
-        groups[at] = a[2 * at] * 256u + a[2 * at + 1];
-        run = groups[at] ? 0 : run + 1;
-        if (run > longest) {
-            longest = run;
-            begin = at + 1 - run;
-        }
-    }
-    size_t end = 0;
-    for (unsigned at = 0; at < 8; at++) {
-        if (at == begin) {
-            end += (size_t)snprintf(text + end, sizeof text - end, "::");
-            at += longest - 1;
-        } else {
-            bool apart = at > 0 && at != begin + longest;
-            end += (size_t)snprintf(text + end, sizeof text - end, apart ? ":%x" : "%x", groups[at]);
-        }
-    }
-    snprintf(text + end, sizeof text - end, "/%u", net->length);
-    return PyUnicode_FromString(text);
-}
+static PyTypeObject *routes_type;
 
 /* ---- the values, by their places */
 
@@ -307,6 +140,34 @@ static int routes_set_item(Routes *self, PyObject *key, PyObject *value) {
     return 0;
 }
 
+static PyObject *routes_set_default(Routes *self, PyObject *const *arguments, Py_ssize_t positional) {
+    if (positional < 1 || positional > 2) {
+        PyErr_SetString(PyExc_TypeError, "setdefault takes a network and at most a default");
+        return NULL;
+    }
+    Net net;
+    size_t place;
+    uint64_t found = 0;
+    PyObject *value = positional == 2 ? arguments[1] : Py_None;
+    if (read_net(arguments[0], &net) < 0 || take_place(self, &place) < 0) return NULL;
+    Py_INCREF(value);
+    self->values[place] = value;
+    uint32_t status = art_routes_get_or_insert(&self->table, net.address, net.width, (uint8_t)net.length, place, &found);
+    if (status == ART_NONE) {
+        self->count++;
+    } else {
+        free_at(self, place);
+        Py_DECREF(value);
+        if (status != ART_SOME) {
+            route_found(status, arguments[0]);
+            return NULL;
+        }
+        value = self->values[found];
+    }
+    Py_INCREF(value);
+    return value;
+}
+
 static Py_ssize_t routes_length(Routes *self) { return self->count; }
 
 static PyObject *routes_get_key(Routes *self, PyObject *key) {
@@ -358,19 +219,18 @@ static PyObject *routes_pop(Routes *self, PyObject *const *arguments, Py_ssize_t
     return NULL;
 }
 
-/* Sets all bits of an address behind its first ones: the last address of a network. */
-static void go_to_last(Net *net) {
-    for (unsigned at = 0; at < net->width; at++) {
-        unsigned kept = net->length > 8 * at ? net->length - 8 * at : 0;
-        if (kept < 8) net->address[at] |= (uint8_t)(0xFFu >> kept);
-    }
-    net->length = bits_of(net);
-}
-
 /* The next route from a network on, and its place: false where there is none. */
 static bool next_route(art_routes_map *table, Net *at, bool inclusive, uint64_t *place) {
     uint8_t length = 0;
     uint32_t status = art_routes_next(table, at->address, at->width, (uint8_t)at->length, inclusive, at->address, 16, &at->width, &length, place);
+    at->length = length;
+    return status == ART_SOME;
+}
+
+/* The last one up to it. */
+static bool previous_route(art_routes_map *table, Net *at, bool inclusive, uint64_t *place) {
+    uint8_t length = 0;
+    uint32_t status = art_routes_previous(table, at->address, at->width, (uint8_t)at->length, inclusive, at->address, 16, &at->width, &length, place);
     at->length = length;
     return status == ART_SOME;
 }
@@ -534,82 +394,7 @@ static PyObject *routes_aggregated(Routes *self, PyObject *arguments) {
     return routes;
 }
 
-/* ---- walks */
-
-/* _walk(given, network): of the routes inside a network, or of all where it is None. */
-static PyObject *routes_walk(Routes *self, PyObject *arguments) {
-    int given;
-    PyObject *key;
-    Net within = {{0}, 4, 0};
-    uint64_t place;
-    if (!PyArg_ParseTuple(arguments, "iO", &given, &key)) return NULL;
-    if (key != Py_None && (read_net(key, &within) < 0 ||
-                           route_found(art_routes_get(&self->table, within.address, within.width, (uint8_t)within.length, &place), key) < 0))
-        return NULL;
-    RouteWalk *walk = (RouteWalk *)((allocfunc)PyType_GetSlot(route_walk_type, Py_tp_alloc))(route_walk_type, 0);
-    if (!walk) return NULL;
-    Py_INCREF(self);
-    walk->routes = self;
-    walk->at = walk->within = within;
-    walk->begun = false;
-    walk->all = key == Py_None;
-    walk->given = given;
-    return (PyObject *)walk;
-}
-
-static PyObject *route_walk_next(RouteWalk *self) {
-    Routes *routes = self->routes;
-    Net *at = &self->at;
-    uint8_t length = 0;
-    uint64_t place;
-    if (!routes) return NULL;
-    uint32_t status = art_routes_next(&routes->table, at->address, at->width, (uint8_t)at->length, !self->begun, at->address, 16, &at->width,
-                                      &length, &place);
-    at->length = length;
-    self->begun = true;
-    if (status != ART_SOME || (!self->all && !covers(&self->within, *at))) {
-        self->routes = NULL;
-        Py_DECREF(routes);
-        return NULL;
-    }
-    if (self->given == KEYS) return text_of(at);
-    PyObject *value = routes->values[place];
-    Py_INCREF(value);
-    if (self->given == VALUES) return value;
-    PyObject *text = text_of(at), *item = text ? PyTuple_Pack(2, text, value) : NULL;
-    Py_XDECREF(text);
-    Py_DECREF(value);
-    return item;
-}
-
-static int route_walk_traverse(RouteWalk *self, visitproc visit, void *arg) {
-    Py_VISIT(Py_TYPE(self));
-    Py_VISIT(self->routes);
-    return 0;
-}
-
-static int route_walk_clear(RouteWalk *self) {
-    Py_CLEAR(self->routes);
-    return 0;
-}
-
-static void route_walk_dealloc(RouteWalk *self) {
-    PyTypeObject *type = Py_TYPE(self);
-    PyObject_GC_UnTrack(self);
-    route_walk_clear(self);
-    ((freefunc)PyType_GetSlot(type, Py_tp_free))(self);
-    Py_DECREF(type);
-}
-
-static PyType_Slot route_walk_slots[] = {
-    {Py_tp_iter, PyObject_SelfIter},       {Py_tp_iternext, route_walk_next},   {Py_tp_traverse, route_walk_traverse},
-    {Py_tp_clear, route_walk_clear},       {Py_tp_dealloc, route_walk_dealloc}, {0, NULL},
-};
-
-static PyType_Spec route_walk_spec = {
-    "verified_art._in_c.RouteWalk", sizeof(RouteWalk), 0,
-    Py_TPFLAGS_DEFAULT | Py_TPFLAGS_HAVE_GC | Py_TPFLAGS_DISALLOW_INSTANTIATION, route_walk_slots,
-};
+#include "_route_walks.h"
 
 /* ---- the type */
 
@@ -654,9 +439,12 @@ static PyMethodDef routes_methods[] = {
     {"direct_children", (PyCFunction)routes_direct_children, METH_O, "The networks of the routes to parts of a network with none between, in order, in a list."},
     {"remove_covered", (PyCFunction)routes_remove_covered, METH_O, "Removes the route to a network and those inside it, and returns how many there were."},
     {"pop", (PyCFunction)(void (*)(void))routes_pop, METH_FASTCALL, "Removes the route to this very network and returns its value, else the default, else raises KeyError."},
+    {"setdefault", (PyCFunction)(void (*)(void))routes_set_default, METH_FASTCALL, "The value of the route to this very network, which is the default, or None, where there was none."},
+    {"free", (PyCFunction)(void (*)(void))routes_free, METH_VARARGS | METH_KEYWORDS, "The networks of a length inside a network that overlap no route, in order."},
     {"clear", (PyCFunction)routes_clear, METH_NOARGS, "Removes all routes."},
     {"__sizeof__", (PyCFunction)routes_size, METH_NOARGS, "The memory of the table, without the library's and the values."},
     {"_walk", (PyCFunction)routes_walk, METH_VARARGS, NULL},
+    {"_differences", (PyCFunction)routes_differences, METH_O, NULL},
     {"_aggregated", (PyCFunction)routes_aggregated, METH_VARARGS, NULL},
     {NULL, NULL, 0, NULL},
 };
