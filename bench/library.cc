@@ -47,7 +47,6 @@ template <class Key> struct Calls {
     uint64_t (*remove)(void *, const Key *, size_t);
     uint64_t (*iterate)(void *);
     uint64_t (*range)(void *, const Key *, size_t, size_t most);
-    void (*prepare)(void *) = nullptr; // after the inserts
 };
 
 // ---- std::map and absl::btree_map
@@ -224,12 +223,6 @@ static Calls<Word> art_words() {
         for (size_t i = 0; i < count; i++) walk(static_cast<art_bytes_map *>(map), from[i].at, from[i].len, most, sum);
         return sum;
     };
-    return calls;
-}
-
-template <class Key> Calls<Key> compacted(Calls<Key> calls, void (*prepare)(void *)) {
-    calls.name = "`libart`, compacted";
-    calls.prepare = prepare;
     return calls;
 }
 
@@ -454,7 +447,6 @@ template <class Key> struct Bench {
         double before = held();
         void *map = calls.make();
         timed(INSERT, count, [&] { return calls.insert(map, keys.data(), count); });
-        if (calls.prepare) calls.prepare(map);
         taken.cost[BYTES] = (held() - before) / double(count);
         timed(GET, count, [&] { return calls.get(map, sought.data(), count); });
         timed(MISS, count, [&] { return calls.get(map, absent.data(), count); });
@@ -502,9 +494,7 @@ int main(int count, char **words) {
     require(entries > 0, "no entries");
     if (shape == "words") {
         auto bench = bench_of(distinct(random_words(2 * entries), 2 * entries), entries);
-        bench.run_all({art_words(),
-                       compacted(art_words(), [](void *map) { require(art_bytes_compact(static_cast<art_bytes_map *>(map)) == ART_NONE, "no memory"); }),
-                       btree_word(), calls_of<std::map<std::string, uint64_t, std::less<>>, Word>("`std::map`"),
+        bench.run_all({art_words(), btree_word(), calls_of<std::map<std::string, uint64_t, std::less<>>, Word>("`std::map`"),
                        calls_of<absl::btree_map<std::string, uint64_t, std::less<>>, Word>("`absl::btree_map`"), judy_words()},
                       first);
         return 0;
@@ -520,9 +510,7 @@ int main(int count, char **words) {
         std::shuffle(all.begin() + entries, all.end(), rng);
     }
     bench_of(std::move(all), entries)
-        .run_all({art_numbers(),
-                  compacted(art_numbers(), [](void *map) { require(art_u64_compact(static_cast<art_u64_map *>(map)) == ART_NONE, "no memory"); }),
-                  btree_u64(), calls_of<std::map<uint64_t, uint64_t>, uint64_t>("`std::map`"),
+        .run_all({art_numbers(), btree_u64(), calls_of<std::map<uint64_t, uint64_t>, uint64_t>("`std::map`"),
                   calls_of<absl::btree_map<uint64_t, uint64_t>, uint64_t>("`absl::btree_map`"), judy_numbers()},
                  first);
 }

@@ -11,9 +11,7 @@ from pathlib import Path
 from shared import REPOSITORY, fail
 
 SHAPES = {"dense": "dense numbers", "random": "random numbers", "words": "words"}
-OURS, COMPACTED, *OTHERS = MAPS = [
-    "`libart`", "`libart`, compacted", "`BTreeMap` of Rust", "`std::map`", "`absl::btree_map`", "Judy"
-]
+OURS, *OTHERS = MAPS = ["`libart`", "`BTreeMap` of Rust", "`std::map`", "`absl::btree_map`", "Judy"]
 CALLS = ["insert", "get", "miss", "remove", "iterate", "range", "bytes"]
 HERE = REPOSITORY / "bench"
 RUSTC = ["rustc", "--edition", "2021", "--crate-type", "staticlib", "-C", "opt-level=3", "-C", "panic=abort"]
@@ -46,5 +44,4 @@ def once(program, shape, size, turn):
         fail(f"library: {shape}, {size} entries: two maps differ, or memory is out")
     for line in run.stdout.splitlines():
         which, call, value = line.split("\t")
-        if (which, call) != (COMPACTED, "insert"):
-            yield which, call, float(value)
+        yield which, call, float(value)

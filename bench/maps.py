@@ -40,7 +40,7 @@ def runs_wanted(bench):
 
 def measure_maps(bench, sizes, is_kept=False):
     """The table of a bench: of each map and call the median of the runs; of two maps also their ratio, where it asks for it."""
-    taken = runs_of(bench, sizes or getattr(bench, "SIZES", SIZES))
+    taken = runs_of(bench, sizes)
     if is_kept:
         keep_runs(bench, taken)
     rows = [["Keys", "Entries", "Map", *bench.CALLS]]
@@ -82,17 +82,20 @@ def values_of(speed, name):
     """The numbers of a table in docs/SPEED.md, by the keys, the entries, the map and the call."""
     values = {}
     for row in rows_of(marked(speed, name)):
-        calls = {call: float(cell.replace(",", "")) for call, cell in list(row.items())[3:] if cell}
-        values.setdefault(row["Keys"], {}).setdefault(row["Entries"], {})[row["Map"]] = calls
+        if row["Map"].startswith("`") or row["Map"] == "Judy":  # no ratio
+            calls = {call: float(cell.replace(",", "")) for call, cell in list(row.items())[3:] if cell}
+            values.setdefault(row["Keys"], {}).setdefault(row["Entries"], {})[row["Map"]] = calls
     return values
 
 
 def summary(speed, keys="random numbers"):
-    """The table of README.md: of each map the numbers of these keys at each size. The best of a process are bold."""
+    """The table of README.md: of each map the numbers of these keys at both sizes. The best of a process are bold."""
     calls = ["insert", "get", "miss", "remove", "iterate", "range", "bytes"]
     rows = []
-    for name in ("tree", "library"):
-        sizes = values_of(speed, name)[keys]
+    wanted = [f"{size:,}" for size in SIZES]
+    for name in ("map", "library"):
+        every = values_of(speed, name)[keys]
+        sizes = {size: every[size] for size in wanted}
         for which in next(iter(sizes.values())):
             cells = [" / ".join(cell_of(maps, which, call) for maps in sizes.values()) for call in calls]
             rows.append([which, *("" if cell.strip(" /") == "" else cell for cell in cells)])

@@ -1,4 +1,4 @@
-"""Draws the tables of docs/SPEED.md: docs/speed.svg of `tree`, and docs/speed-bindings.svg of `library`.
+"""Draws the tables of docs/SPEED.md: docs/speed.svg of `map`, and docs/speed-bindings.svg of `library`.
 
 One panel for each call and one for memory: our time divided by the other's for each number of entries. In the first a
 line is a shape of keys; in the second it is another map, and each shape of keys has its own panels.
@@ -7,7 +7,7 @@ line is a shape of keys; in the second it is another map, and each shape of keys
 import math
 
 import library
-import tree
+import pages
 from maps import values_of
 from shared import REPOSITORY
 
@@ -16,7 +16,7 @@ COLUMNS = 4
 WIDTH, HEIGHT = 250, 190  # of a panel
 LEFT, TOP, GAP_ACROSS, GAP_DOWN = 64, 112, 26, 62
 HEADING = 40  # above the panels of one shape of keys
-MARKS = "●■▲◆"
+MARKS = "●■▲◆★▼⬟"
 NAMES = {"bytes": "memory", "iterate": "iterate, an entry", "range": "range of 100 entries"}
 STYLE = """
     .ground { fill: #ffffff } .panel { fill: #f6f8fa } text { fill: #1f2328 } .quiet { fill: #57606a }
@@ -24,25 +24,22 @@ STYLE = """
     .line { fill: none; stroke-width: 2 }
     .s0 { stroke: #0072b2 } .m0 { fill: #0072b2 } .s1 { stroke: #d55e00 } .m1 { fill: #d55e00 }
     .s2 { stroke: #00805a } .m2 { fill: #00805a } .s3 { stroke: #a8478a } .m3 { fill: #a8478a }
+    .s4 { stroke: #6f5a00 } .m4 { fill: #6f5a00 } .s5 { stroke: #57606a } .m5 { fill: #57606a }
+    .s6 { stroke: #7a3ec2 } .m6 { fill: #7a3ec2 }
     @media (prefers-color-scheme: dark) {
       .ground { fill: #0d1117 } .panel { fill: #161b22 } text { fill: #e6edf3 } .quiet { fill: #9198a1 }
       .grid { stroke: #30363d } .equal { stroke: #9198a1 }
       .s0 { stroke: #56b4e9 } .m0 { fill: #56b4e9 } .s1 { stroke: #ff9a4d } .m1 { fill: #ff9a4d }
       .s2 { stroke: #3ddc97 } .m2 { fill: #3ddc97 } .s3 { stroke: #e9a3cc } .m3 { fill: #e9a3cc }
+      .s4 { stroke: #e3c653 } .m4 { fill: #e3c653 } .s5 { stroke: #9198a1 } .m5 { fill: #9198a1 }
+      .s6 { stroke: #c29bf0 } .m6 { fill: #c29bf0 }
     }
 """
 
 
-def columns_of(calls, compacted):
-    """The calls of the panels, each with the state of our map."""
-    return [(call, "") for call in calls] + [(call, ", compacted") for call in compacted]
-
-
-def ratios_of(sizes, ours, theirs, columns):
-    """For each number of entries our numbers in these columns, divided by those of the other map."""
-    return {
-        size: [maps[ours + state][call] / maps[theirs][call] for call, state in columns] for size, maps in sizes.items()
-    }
+def ratios_of(sizes, ours, theirs, calls):
+    """For each number of entries our numbers of these calls, divided by those of the other map."""
+    return {size: [maps[ours][call] / maps[theirs][call] for call in calls] for size, maps in sizes.items()}
 
 
 def halvings(ratios):
@@ -74,16 +71,15 @@ def axis(left, top, powers, is_first):
             yield f'<text class="quiet" x="{left - 8}" y="{y + 4:.1f}" text-anchor="end">{axis_label(power)}</text>'
 
 
-def panel(first_top, place, column, ratios, powers):
+def panel(first_top, place, call, ratios, powers):
     """One panel: its name, its axes and its lines."""
-    call, state = column
     low, high = powers
     left = LEFT + place % COLUMNS * (WIDTH + GAP_ACROSS)
     top = first_top + place // COLUMNS * (HEIGHT + GAP_DOWN)
     sizes = list(next(iter(ratios.values())))
     across = [left + WIDTH * (nth + 0.5) / len(sizes) for nth in range(len(sizes))]
     yield f'<rect class="panel" x="{left}" y="{top}" width="{WIDTH}" height="{HEIGHT}" rx="3"/>'
-    yield f'<text x="{left}" y="{top - 9}" font-weight="bold">{NAMES.get(call, call)}{state}</text>'
+    yield f'<text x="{left}" y="{top - 9}" font-weight="bold">{NAMES.get(call, call)}</text>'
     yield from axis(left, top, powers, place % COLUMNS == 0)
     for x, size in zip(across, sizes):
         yield f'<text class="quiet" x="{x:.1f}" y="{top + HEIGHT + 18}" text-anchor="middle">{size}</text>'
@@ -96,15 +92,15 @@ def panel(first_top, place, column, ratios, powers):
 def legend(ratios):
     drawn = []
     for index, keys in enumerate(ratios):
-        x = LEFT + index * 190
+        x = LEFT + index * 155
         drawn.append(f'<path class="line s{index}" d="M{x} 74 h28"/>')
         drawn.append(mark(index, x + 14, 74))
         drawn.append(f'<text x="{x + 36}" y="78">{keys.replace("`", "")}</text>')
     return drawn
 
 
-def block_height(columns):
-    return math.ceil(len(columns) / COLUMNS) * (HEIGHT + GAP_DOWN)
+def block_height(calls):
+    return math.ceil(len(calls) / COLUMNS) * (HEIGHT + GAP_DOWN)
 
 
 def drawing(title, below, blocks):
@@ -112,7 +108,7 @@ def drawing(title, below, blocks):
     heading = HEADING if len(blocks) > 1 else 0
     powers = halvings({name + line: sizes for name, (_, ratios) in blocks.items() for line, sizes in ratios.items()})
     width = LEFT + COLUMNS * (WIDTH + GAP_ACROSS)
-    height = TOP + sum(heading + block_height(columns) for columns, _ in blocks.values()) - 10
+    height = TOP + sum(heading + block_height(calls) for calls, _ in blocks.values()) - 10
     drawn = [
         f'<svg xmlns="http://www.w3.org/2000/svg" width="{width}" height="{height}"'
         f' viewBox="0 0 {width} {height}" font-family="DejaVu Sans, Arial, sans-serif" font-size="12.5">',
@@ -124,29 +120,29 @@ def drawing(title, below, blocks):
         *legend(next(iter(blocks.values()))[1]),
     ]
     top = TOP
-    for name, (columns, ratios) in blocks.items():
+    for name, (calls, ratios) in blocks.items():
         if heading:
             drawn.append(f'<text x="{LEFT}" y="{top + 4}" font-size="15" font-weight="bold">{name}</text>')
-        for place, column in enumerate(columns):
-            drawn += panel(top + heading, place, column, ratios, powers)
-        top += heading + block_height(columns)
+        for place, call in enumerate(calls):
+            drawn += panel(top + heading, place, call, ratios, powers)
+        top += heading + block_height(calls)
     return "\n".join([*drawn, "</svg>", ""])
 
 
-def draw_tree(speed):
-    columns = columns_of([call for call in tree.CALLS if call not in ("order", "peak")], ["get", "iterate", "range", "bytes"])
-    values = values_of(speed, "tree")
-    ratios = {keys: ratios_of(sizes, tree.OURS, tree.THEIRS, columns) for keys, sizes in values.items()}
-    title = "ArtMap beside BTreeMap of Rattle's std"
+def draw_map(speed):
+    calls = [call for call in pages.CALLS if call not in ("iterate_back", "values", "peak")]
+    values = values_of(speed, "map")
+    ratios = {keys: ratios_of(sizes, pages.OURS, pages.THEIRS, calls) for keys, sizes in values.items()}
+    title = "Map beside BTreeMap of Rattle's std"
     below = "Time of a call and memory of an entry, divided by those of BTreeMap: below the dashed line is better"
-    (DOCS / "speed.svg").write_text(drawing(title, below, {"": (columns, ratios)}), encoding="utf-8")
+    (DOCS / "speed.svg").write_text(drawing(title, below, {"": (calls, ratios)}), encoding="utf-8")
 
 
 def draw_library(speed):
-    columns = columns_of([call for call in library.CALLS if call != "miss"], ["iterate", "range"])
+    calls = library.CALLS
     blocks = {}
     for keys, sizes in values_of(speed, "library").items():
-        blocks[keys] = (columns, {theirs: ratios_of(sizes, library.OURS, theirs, columns) for theirs in library.OTHERS})
+        blocks[keys] = (calls, {theirs: ratios_of(sizes, library.OURS, theirs, calls) for theirs in library.OTHERS})
     title = "The library for C beside other ordered maps"
     below = "Time of a call and memory of an entry, divided by those of the other map: below the dashed line is better"
     (DOCS / "speed-bindings.svg").write_text(drawing(title, below, blocks), encoding="utf-8")
