@@ -14,7 +14,7 @@ TOLD = re.compile(r"^(?:note: )?(?:\./)?((?:src|specs|proofs)/\S+?):\d+:\d+: (.*
 GOAL = re.compile(r"\(`([^`]+)`\)|^error: `([^`]+)`: ")
 NAMES_ALONE = re.compile(r"has no field|is not in scope|has no `|was not admitted")
 UNREAD = re.compile(r"is not in scope|has no field|is no name|operand is missing|expected the end|cannot continue")
-UNPROVED = re.compile(r"^(?:fn|impl) (\S+): (?!proved$|no proof: it calls|not proved; it waits for)", re.MULTILINE)
+UNPROVED = re.compile(r"^(?:fn|impl) (\S+): (?!proved$|proved where |no proof: it calls|not proved; it waits for)", re.MULTILINE)
 
 
 @cache
