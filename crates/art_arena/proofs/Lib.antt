@@ -3,7 +3,6 @@ mod ArenaLemmas
 mod BelowLemmas
 mod DescentLemmas
 mod EndLemmas
-mod ForwardLemmas
 pub mod Heights
 mod InnerRefLemmas
 mod KeptLemmas

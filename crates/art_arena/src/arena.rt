@@ -125,26 +125,6 @@ impl<K, V, const PREFIX_LEN: usize> NodeArena<K, V, PREFIX_LEN> {
         self.leaf.len()
     }
 
-    /// How many leaves the arena holds at most with no allocation. The slab key of each leaf is below
-    /// it. Takes no memory.
-    pub fn leaf_capacity(&self) -> usize
-        ensures capacity { result ≡ capacity self.now NodeType.Leaf }
-        ensures holds_all { leaf_count self.now ≤ result }
-        ensures keys { (key : ℕ) → HoldsLeaf self.now key → key < result }
-    {
-        self.leaf.capacity()
-    }
-
-    /// Exchanges the leaves of two arenas, with their spare capacity. The inner nodes of both are
-    /// unchanged: [`NodeArena::forward_leaves`] changes their children. Takes constant time and no
-    /// memory.
-    pub fn swap_leaves(&mut self, other: &mut Self)
-        ensures leaves { self.new ≡ record self.old { leaf = other.old.leaf } }
-        ensures other_leaves { other.new ≡ record other.old { leaf = self.old.leaf } }
-    {
-        mem::swap(&mut self.leaf, &mut other.leaf);
-    }
-
     /// Whether the arena holds a node of this type at the pointer.
     pub fn holds<N: ArenaNode<K, V, PREFIX_LEN>>(&self, ptr: NodePtr<PREFIX_LEN, N>) -> bool
         ensures { IsTrue result ↔ (held self.now (opaque_pointer N.TYPE (slab_key ptr)) ≢ Nothing) }

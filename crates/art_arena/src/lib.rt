@@ -8,7 +8,6 @@
 
 mod arena;
 mod ends;
-mod forwarding;
 mod full_prefix;
 mod inner_ref;
 pub mod laws;
@@ -18,7 +17,6 @@ mod reader;
 pub use arena::{ArenaInnerNode, ArenaNode, LeafPtr, NodeArena};
 pub use art_nodes::{ExplicitMismatch, NodePrefix};
 pub use ends::{End, any_leaf, end_leaf};
-pub use forwarding::forward;
 pub use full_prefix::FullPrefix;
 pub use inner_ref::{AnyInnerRef, InnerRef};
 pub use leaf_links::LeafLinks;

@@ -5,5 +5,3 @@ pub mod OpenNodes
 pub mod RefusalLemmas
 pub mod PlacedTrees
 pub mod ReloadedTree
-pub mod MovedLeaves
-pub mod OrderedLeaves

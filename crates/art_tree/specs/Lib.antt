@@ -8,7 +8,6 @@ pub mod Ends
 pub mod Entering
 pub mod Finding
 pub mod LeafRemoval
-pub mod LeafOrder
 pub mod Leaves
 pub mod Loading
 pub mod NodeCounts

@@ -12,7 +12,6 @@ ghost use Rattle.art_tree.specs.Loading.{IsLoaded};
 mod check;
 mod keys;
 mod leaves;
-mod ordering;
 mod raise;
 mod reloading;
 mod steps;
@@ -26,7 +25,6 @@ use art_arena::{LeafPtr, NodeArena};
 use art_bytes::AsBytes;
 use art_nodes::{NodeType, OpaqueNodePtr};
 pub use check::LoadRefusal;
-pub(crate) use ordering::order;
 pub(crate) use reloading::reload;
 use std::alloc::{AllocError, Global};
 

@@ -8,7 +8,6 @@ ghost use Rattle.art_tree.specs.Dictionary.{HasKeys, IsEmpty};
 mod all_entries;
 mod changes;
 mod ends;
-mod leaf_order;
 mod reading;
 mod room;
 

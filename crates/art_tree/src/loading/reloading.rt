@@ -1,8 +1,7 @@
 //! Compaction: the entries of a tree, loaded into another arena in their order.
-ghost use Rattle.std.specs.Prelude.{◌≡◌, ◌≢◌, ◌≤◌, [], All, Some, length, map, vec_capacity, IfOk, OnErr};
-ghost use Rattle.art_header.specs.declared.node_type.NodeType.TheVariants.{Leaf};
-ghost use Rattle.art_nodes.specs.Pointers.{node_kind, slab_key};
-ghost use Rattle.art_arena.specs.Arena.{held, Nothing, SameCapacity, SameOtherRoom};
+ghost use Rattle.std.specs.Prelude.{◌≡◌, ◌≤◌, [], All, Some, length, map, vec_capacity, IfOk, OnErr};
+ghost use Rattle.art_nodes.specs.Pointers.{slab_key};
+ghost use Rattle.art_arena.specs.Arena.{held, Nothing};
 ghost use Rattle.art_arena.specs.Links.{AreDistinct, HoldsLeaf};
 ghost use Rattle.art_tree.specs.Art.{IsArt};
 ghost use Rattle.art_tree.specs.Loading.{HoldEntries};
@@ -16,7 +15,7 @@ use art_nodes::OpaqueNodePtr;
 use std::alloc::{AllocError, Global};
 
 // The leaves of the tree at the root, in order.
-pub(super) fn leaves_in_order<K: AsBytes, V, const PREFIX_LEN: usize>(
+fn leaves_in_order<K: AsBytes, V, const PREFIX_LEN: usize>(
     alloc: Global,
     arena: &NodeArena<K, V, PREFIX_LEN>,
     root: OpaqueNodePtr<K, V, PREFIX_LEN>,
@@ -34,7 +33,7 @@ pub(super) fn leaves_in_order<K: AsBytes, V, const PREFIX_LEN: usize>(
 }
 
 // Takes the entries of these leaves out of the arena, in order. There must be memory for them.
-pub(super) fn take_entries<K, V, const PREFIX_LEN: usize>(
+fn take_entries<K, V, const PREFIX_LEN: usize>(
     arena: &mut NodeArena<K, V, PREFIX_LEN>,
     leaves: &[LeafPtr<K, V, PREFIX_LEN>],
     entries: &mut Vec<(K, V)>,
@@ -43,11 +42,7 @@ pub(super) fn take_entries<K, V, const PREFIX_LEN: usize>(
     requires distinct { AreDistinct (map slab_key leaves.now) }
     requires none { entries.old.items ≡ [] }
     requires memory { length leaves.now ≤ vec_capacity entries.old }
-    ensures hold { HoldEntries arena.old (map leaf_pointer leaves.now) entries.new.items }
-    ensures inner_kept { (pointer : _) → node_kind pointer ≢ Leaf →
-        held arena.new pointer ≡ held arena.old pointer }
-    ensures other_room { SameOtherRoom arena.old arena.new Leaf }
-    ensures capacity { SameCapacity arena.old arena.new }
+    ensures { HoldEntries arena.old (map leaf_pointer leaves.now) entries.new.items }
 {
     for leaf in leaves {
         let entry = arena.deallocate_node_ptr(*leaf).into_entry();

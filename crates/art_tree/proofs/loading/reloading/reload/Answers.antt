@@ -26,8 +26,8 @@ make-requires g c =
     let entries = c.take_entries.new.entries.items in
     let steps = c.in_ok-prepared.prepared.steps.items in
     let is : AreLeavesOf g.K.AsBytes.text c.args.old.now c.args.root c.deref-2.result.now = subst (AreLeavesOf g.K.AsBytes.text c.args.old.now c.args.root) (sym c.deref-2.ensures.value) c.in_ok-leaves.ensures in
-    let texts = hold-texts text old c.deref-2.result.now entries c.take_entries.ensures.hold in
-    let count = hold-count old c.deref-2.result.now entries c.take_entries.ensures.hold in
+    let texts = hold-texts text old c.deref-2.result.now entries c.take_entries.ensures in
+    let count = hold-count old c.deref-2.result.now entries c.take_entries.ensures in
     let loadable = subst AreLoadable texts (leaves-loadable is) in
     let plan = subst (λ xs. IsPlanOf xs steps) texts (subst (λ leaves. IsPlanOf (leaf_texts text old leaves) steps) (c.deref.ensures.value ∙ sym c.deref-2.ensures.value) c.in_ok-prepared.ensures.plan) in
     let long : vec_len c.take_entries.new.entries ≡ length c.deref.result.now = omega (arith, count, c.deref.ensures.len, c.deref-2.ensures.len, c.take_entries.new.entries.ok.0) in
@@ -40,4 +40,4 @@ pub returns-clause-reloaded : goal.returns-clause-reloaded
 returns-clause-reloaded g c =
     let is : AreLeavesOf g.K.AsBytes.text c.args.old.now c.args.root c.deref-2.result.now = subst (AreLeavesOf g.K.AsBytes.text c.args.old.now c.args.root) (sym c.deref-2.ensures.value) c.in_ok-leaves.ensures in
     let (tree, loaded) = c.make.ensures in
-    reloaded is c.take_entries.new.entries.items c.take_entries.ensures.hold c.prepare.new.arena c.make.new.arena (λ pointer. c.in_ok-prepared.ensures.nodes_kept pointer ∙ c.requires.empty pointer) c.make.result tree loaded
+    reloaded is c.take_entries.new.entries.items c.take_entries.ensures c.prepare.new.arena c.make.new.arena (λ pointer. c.in_ok-prepared.ensures.nodes_kept pointer ∙ c.requires.empty pointer) c.make.result tree loaded

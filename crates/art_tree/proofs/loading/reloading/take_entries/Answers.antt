@@ -1,9 +1,9 @@
-use Rattle.art_tree.proofs.Names.{◌∙◌, ap, node_kind, refl, ◌≢◌, ◌+◌, get_or, sym, subst, arith, lit<, get_or_default, slab_key, NodePtr, LeafNode, Nothing, HoldsLeaf}
+use Rattle.art_tree.proofs.Names.{◌≢◌, ◌+◌, get_or, sym, subst, arith, lit<, get_or_default, slab_key, NodePtr, LeafNode, Nothing, HoldsLeaf}
 use Rattle.art_tree.proofs.LoadLemmas.ReloadedTree.{IsTaking, all-taken, next-taken, none-taken}
 use Rattle.art_tree.proofs.loading.reloading.take_entries.Goals as goal
 
 pub loop-leaf-init : goal.loop-leaf-init
-loop-leaf-init g c = record { taking = none-taken c.args.arena.now c.args.leaves.now c.args.entries.now.items c.requires.none; memory = c.requires.memory; inner_kept = λ pointer differ. refl; other_room = λ other differ. refl; capacity = λ kind. refl }
+loop-leaf-init g c = record { taking = none-taken c.args.arena.now c.args.leaves.now c.args.entries.now.items c.requires.none; memory = c.requires.memory }
 
 pub deallocate_node_ptr-requires : goal.deallocate_node_ptr-requires
 deallocate_node_ptr-requires g c =
@@ -30,19 +30,7 @@ loop-leaf-preserved g c =
           (next-taken old of c.loop-leaf.arena new i entries at c.deallocate_node_ptr.result c.into_entry-entry.result c.requires.distinct c.loop-leaf.invariant.taking c.loop-leaf-test.true (get_or_default of i at none c.loop-leaf-test.true)
           c.deallocate_node_ptr.ensures.node c.deallocate_node_ptr.ensures.removed c.into_entry-entry.ensures.key c.into_entry-entry.ensures.value);
       memory = omega (arith, c.push_reserved.ensures.capacity, c.loop-leaf.invariant.memory);
-      inner_kept = λ pointer differ. c.deallocate_node_ptr.ensures.removed.others pointer (λ same. differ (ap node_kind same)) ∙ c.loop-leaf.invariant.inner_kept pointer differ;
-      other_room = λ other differ. c.deallocate_node_ptr.ensures.other_room other differ ∙ c.loop-leaf.invariant.other_room other differ;
-      capacity = λ kind. c.deallocate_node_ptr.ensures.capacity kind ∙ c.loop-leaf.invariant.capacity kind;
     }
 
-pub returns-clause-hold : goal.returns-clause-hold
-returns-clause-hold g c = all-taken c.args.arena.now c.args.leaves.now c.loop-leaf.arena c.loop-leaf.entries.items c.loop-leaf.leaf-index (omega (arith, c.loop-leaf-test.false)) c.loop-leaf.invariant.taking
-
-pub returns-clause-inner_kept : goal.returns-clause-inner_kept
-returns-clause-inner_kept g c = c.loop-leaf.invariant.inner_kept
-
-pub returns-clause-other_room : goal.returns-clause-other_room
-returns-clause-other_room g c = c.loop-leaf.invariant.other_room
-
-pub returns-clause-capacity : goal.returns-clause-capacity
-returns-clause-capacity g c = c.loop-leaf.invariant.capacity
+pub returns-clause : goal.returns-clause
+returns-clause g c = all-taken c.args.arena.now c.args.leaves.now c.loop-leaf.arena c.loop-leaf.entries.items c.loop-leaf.leaf-index (omega (arith, c.loop-leaf-test.false)) c.loop-leaf.invariant.taking
