@@ -32,5 +32,5 @@ loop-leaf-preserved g c =
       memory = omega (arith, c.push_reserved.ensures.capacity, c.loop-leaf.invariant.memory);
     }
 
-pub returns-clause : goal.returns-clause
-returns-clause g c = all-taken c.args.arena.now c.args.leaves.now c.loop-leaf.arena c.loop-leaf.entries.items c.loop-leaf.leaf-index (omega (arith, c.loop-leaf-test.false)) c.loop-leaf.invariant.taking
+pub returns : goal.returns
+returns g c = all-taken c.args.arena.now c.args.leaves.now c.loop-leaf.arena c.loop-leaf.entries.items c.loop-leaf.leaf-index (omega (arith, c.loop-leaf-test.false)) c.loop-leaf.invariant.taking
