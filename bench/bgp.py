@@ -25,7 +25,7 @@ ATTACKS = {
     "a miss beside an IPv4 address": ("beside4", "miss", "bgp4", "miss"),
     "a miss beside an IPv6 address": ("beside6", "miss", "bgp6", "miss"),
 }
-MAPS, CALLS = tables.MAPS, tables.CALLS
+MAPS, PEERS, CALLS = tables.MAPS, tables.PEERS, tables.CALLS
 build = tables.build
 
 

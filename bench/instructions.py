@@ -38,7 +38,7 @@ def measure(sizes):
     """The table of instructions."""
     if not shutil.which("valgrind"):
         fail("instructions: valgrind is not there")
-    program, _ = tables.build_program()
+    program = tables.build_program()
     rows = [["Keys", "Entries", "Map", *CALLS]]
     for shape, size in [(shape, size) for shape, _ in CASES for size in sizes] if sizes else CASES:
         say(f"instructions of {size:,} {SHAPES[shape]}")

@@ -2,9 +2,10 @@
 //
 //     library dense|random|words ENTRIES FIRST
 //
-// It makes each map in turn, beginning with that of the number FIRST, and times its calls. It writes a line for each map and
-// call: the nanoseconds of processor time, for one entry (of a range: for one range), and the bytes that malloc has given out
-// for an entry. It fails where two maps differ in what their calls return.
+// It makes each map in turn, beginning with that of the number FIRST, and times its calls. Of fewer than 20,000 ENTRIES it
+// makes as many maps of a kind as have 20,000 entries or a few less in all, and calls what changes no map once before it is timed.
+// It writes a line for each map and call: the nanoseconds of processor time, for one entry (of a range: for one range), and the
+// bytes that malloc has given out for an entry. It fails where two maps differ in what their calls return.
 #include "../bindings/c/art.h"
 #include <Judy.h>
 #include <absl/container/btree_map.h>
@@ -27,7 +28,8 @@ struct Word {
     std::string_view view() const { return {reinterpret_cast<const char *>(at), len}; }
 };
 
-constexpr size_t RANGE = 100; // entries of a range
+constexpr size_t RANGE = 100;   // entries of a range
+constexpr size_t MANY = 20'000; // of maps with fewer entries there are several
 
 static void require(bool due, const char *what) {
     if (due) return;
@@ -434,29 +436,44 @@ struct Taken {
 };
 
 template <class Key> struct Bench {
+    size_t each, maps; // entries of a map, and how many maps of a kind there are
     std::vector<Key> keys, sought, absent, starts;
+
+    // Each map's part of these keys in another order.
+    void shuffle_parts(std::vector<Key> &parts, std::mt19937_64 order) const {
+        for (size_t map = 0; map < maps; map++) std::shuffle(&parts[map * each], &parts[map * each] + each, order);
+    }
 
     Taken run(const Calls<Key> &calls) {
         Taken taken{};
-        auto timed = [&](int what, size_t count, auto call) {
+        std::vector<void *> made(maps);
+        // The sum of what a call returns on each map, with its part of the keys.
+        auto sum_of = [&](const std::vector<Key> &parts, auto call) {
+            uint64_t sum = 0;
+            size_t part = parts.size() / maps;
+            for (size_t map = 0; map < maps; map++) sum += call(made[map], &parts[map * part], part);
+            return sum;
+        };
+        auto timed = [&](int what, const std::vector<Key> &parts, size_t count, auto call) {
+            if (maps > 1 && what != INSERT && what != REMOVE) sum_of(parts, call);
             double begun = now();
-            taken.returned[what] = call();
+            taken.returned[what] = sum_of(parts, call);
             taken.cost[what] = (now() - begun) / double(count);
         };
         size_t count = keys.size();
         double before = held();
-        void *map = calls.make();
-        timed(INSERT, count, [&] { return calls.insert(map, keys.data(), count); });
+        for (void *&map : made) map = calls.make();
+        timed(INSERT, keys, count, calls.insert);
         taken.cost[BYTES] = (held() - before) / double(count);
-        timed(GET, count, [&] { return calls.get(map, sought.data(), count); });
-        timed(MISS, count, [&] { return calls.get(map, absent.data(), count); });
-        timed(ITERATE, count, [&] { return calls.iterate(map); });
-        timed(RANGES, starts.size(), [&] { return calls.range(map, starts.data(), starts.size(), RANGE); });
-        std::shuffle(sought.begin(), sought.end(), std::mt19937_64(7));
-        timed(REMOVE, count, [&] { return calls.remove(map, sought.data(), count); });
+        timed(GET, sought, count, calls.get);
+        timed(MISS, absent, count, calls.get);
+        timed(ITERATE, keys, count, [&](void *map, const Key *, size_t) { return calls.iterate(map); });
+        timed(RANGES, starts, starts.size(), [&](void *map, const Key *from, size_t some) { return calls.range(map, from, some, RANGE); });
+        shuffle_parts(sought, std::mt19937_64(7));
+        timed(REMOVE, sought, count, calls.remove);
         require(taken.returned[INSERT] == count && taken.returned[MISS] == 0, calls.name);
-        require(taken.returned[REMOVE] == count * (count + 1) / 2, calls.name);
-        calls.free(map);
+        require(taken.returned[REMOVE] == maps * (each * (each + 1) / 2), calls.name);
+        for (void *map : made) calls.free(map);
         malloc_trim(0);
         return taken;
     }
@@ -476,24 +493,27 @@ template <class Key> struct Bench {
 };
 
 // Twice as many keys as entries: those of the entries, in random order, and absent ones.
-template <class Key> static Bench<Key> bench_of(std::vector<Key> all, size_t count) {
-    Bench<Key> bench;
+template <class Key> static Bench<Key> bench_of(std::vector<Key> all, size_t each) {
+    size_t count = all.size() / 2, ranges = std::max<size_t>(each / RANGE, 1);
+    Bench<Key> bench{each, count / each, {}, {}, {}, {}};
     bench.keys.assign(all.begin(), all.begin() + count);
     bench.absent.assign(all.begin() + count, all.end());
     bench.sought = bench.keys;
-    std::shuffle(bench.sought.begin(), bench.sought.end(), rng);
-    bench.starts.assign(bench.sought.begin(), bench.sought.begin() + std::max<size_t>(count / RANGE, 1));
+    bench.shuffle_parts(bench.sought, rng);
+    for (size_t map = 0; map < bench.maps; map++)
+        bench.starts.insert(bench.starts.end(), &bench.sought[map * each], &bench.sought[map * each] + ranges);
     return bench;
 }
 
-int main(int count, char **words) {
-    require(count == 4, "give the keys, how many, and the first map");
+int main(int arguments, char **words) {
+    require(arguments == 4, "give the keys, how many, and the first map");
     std::string shape = words[1];
-    size_t entries = std::strtoull(words[2], nullptr, 10);
+    size_t each = std::strtoull(words[2], nullptr, 10);
     size_t first = std::strtoull(words[3], nullptr, 10);
-    require(entries > 0, "no entries");
+    require(each > 0, "no entries");
+    size_t count = each * std::max<size_t>(MANY / each, 1);
     if (shape == "words") {
-        auto bench = bench_of(distinct(random_words(2 * entries), 2 * entries), entries);
+        auto bench = bench_of(distinct(random_words(2 * count), 2 * count), each);
         bench.run_all({art_words(), btree_word(), calls_of<std::map<std::string, uint64_t, std::less<>>, Word>("`std::map`"),
                        calls_of<absl::btree_map<std::string, uint64_t, std::less<>>, Word>("`absl::btree_map`"), judy_words()},
                       first);
@@ -502,14 +522,13 @@ int main(int count, char **words) {
     require(shape == "dense" || shape == "random", "the keys are dense, random or words");
     std::vector<uint64_t> all;
     if (shape == "random") {
-        all = distinct(random_numbers(2 * entries), 2 * entries);
+        all = distinct(random_numbers(2 * count), 2 * count);
     } else {
-        // The absent ones lie above all entries.
-        all = dense_numbers(2 * entries);
-        std::shuffle(all.begin(), all.begin() + entries, rng);
-        std::shuffle(all.begin() + entries, all.end(), rng);
+        // Those of a map are dense. The absent ones lie above all entries.
+        all = dense_numbers(2 * count);
+        for (size_t at = 0; at < all.size(); at += each) std::shuffle(&all[at], &all[at] + each, rng);
     }
-    bench_of(std::move(all), entries)
+    bench_of(std::move(all), each)
         .run_all({art_numbers(), btree_u64(), calls_of<std::map<uint64_t, uint64_t>, uint64_t>("`std::map`"),
                   calls_of<absl::btree_map<uint64_t, uint64_t>, uint64_t>("`absl::btree_map`"), judy_numbers()},
                  first);

@@ -1,18 +1,18 @@
 """The library for C beside Rust's `BTreeMap`, C++'s `std::map`, `absl::btree_map` and Judy, in one process.
 
 The same calls on each, in C++ (on `BTreeMap` in Rust), by entries in random order; a run begins with another map than the
-one before it. Memory is what malloc has given out.
+one before it. Of fewer than 20,000 entries there are several maps, as `map` has them. Memory is what malloc has given out.
 """
 
 import shutil
 import subprocess
-from pathlib import Path
 
-from shared import REPOSITORY, fail
+from shared import REPOSITORY, built_library, fail
 
 SHAPES = {"dense": "dense numbers", "random": "random numbers", "words": "words"}
 OURS, *OTHERS = MAPS = ["`libart`", "`BTreeMap` of Rust", "`std::map`", "`absl::btree_map`", "Judy"]
 CALLS = ["insert", "get", "miss", "remove", "iterate", "range", "bytes"]
+CASES = [(shape, size) for shape in SHAPES for size in (100, 100_000, 1_000_000) if (shape, size) != ("words", 1_000_000)]
 HERE = REPOSITORY / "bench"
 RUSTC = ["rustc", "--edition", "2021", "--crate-type", "staticlib", "-C", "opt-level=3", "-C", "panic=abort"]
 CPP = ["g++", "-std=c++17", "-O3", "-DNDEBUG"]
@@ -20,10 +20,7 @@ CPP = ["g++", "-std=c++17", "-O3", "-DNDEBUG"]
 
 def build():
     """The program, compiled from the library as it is."""
-    found = subprocess.run([REPOSITORY / "bindings" / "library"], stdout=subprocess.PIPE, text=True)
-    if found.returncode != 0:
-        fail("library: there is no libart.a of these sources")
-    library, out = Path(found.stdout.strip(), "libart.a"), HERE / "out"
+    library, out = built_library() / "libart.a", HERE / "out"
     missing = [tool for tool in ("g++", "rustc", "pkg-config") if not shutil.which(tool)]
     if missing:
         fail(f"library: {', '.join(missing)} is not there")

@@ -3,8 +3,8 @@ their calls return.
 
 Inserts in random order (but of ascending numbers), look-ups in another, of absent keys too, a visit of all entries from
 either end, key and value, and of the values alone, a range of 100 entries from each hundredth key on, removals in a third
-order, and `pop_first` of all. Of fewer than 20,000 entries there are several maps, with 20,000 in all. What changes no map is called once before it is timed. Both maps take turns in each run, so their ratio says more than either time: the last row has its median, and
-in brackets the least and the greatest.
+order, and `pop_first` of all. Of fewer than 20,000 entries there are several maps, with 20,000 in all. What changes no map is
+called once before it is timed. Both maps take turns in each run, so their ratio says more than either time.
 
 Memory is the anonymous pages of a process with the entries beyond those of one that has the keys alone, and `peak` the
 most that it had resident until then, beyond the same. The keys' own memory is among them.
@@ -14,6 +14,7 @@ import pathlib
 import re
 import subprocess
 
+from maps import ratios_across
 from shared import built_of_bench, fail
 
 SHAPES = {
@@ -26,11 +27,12 @@ SHAPES = {
     "tuples": "tuples",
 }
 SIZES = [10, 100, 500, 100_000, 1_000_000]
-RUNS = 7
+HIDDEN_SIZES = [10]  # in bench/results alone
 OURS, THEIRS = MAPS = ["`Map`", "`BTreeMap` of Rattle"]
-RATIO = "ratio"
 CALLS = ["insert", "get", "miss", "remove", "pop_first", "iterate", "iterate_back", "values", "range", "bytes", "peak"]
+SHOWN_CALLS = [call for call in CALLS if call not in ("iterate_back", "values", "peak")]
 ENTRIES_FOR_ONE = {"range": 100}  # of these calls one is made for so many entries
+rows = ratios_across
 
 
 def build():

@@ -1,14 +1,15 @@
-"""Draws the tables of docs/SPEED.md: docs/speed.svg of `map`, and docs/speed-bindings.svg of `library`.
+"""Draws the runs in bench/results: docs/speed.svg of `map`, and docs/speed-bindings.svg of `library`.
 
 One panel for each call and one for memory: our time divided by the other's for each number of entries. In the first a
 line is a shape of keys; in the second it is another map, and each shape of keys has its own panels.
 """
 
 import math
+import statistics
 
 import library
 import pages
-from maps import values_of
+from maps import kept
 from shared import REPOSITORY
 
 DOCS = REPOSITORY / "docs"
@@ -37,9 +38,14 @@ STYLE = """
 """
 
 
-def ratios_of(sizes, ours, theirs, calls):
-    """For each number of entries our numbers of these calls, divided by those of the other map."""
-    return {size: [maps[ours][call] / maps[theirs][call] for call in calls] for size, maps in sizes.items()}
+def ratios_of(bench, name, theirs, calls):
+    """For each shape of keys and number of entries our medians of these calls, divided by those of the other map."""
+    ratios = {}
+    for (shape, size), runs in kept(name).cases.items():
+        median = {of: statistics.median(it) for of, it in runs.items()}
+        row = [median[bench.OURS, call] / median[theirs, call] for call in calls]
+        ratios.setdefault(bench.SHAPES[shape], {})[f"{size:,}"] = row
+    return ratios
 
 
 def halvings(ratios):
@@ -129,20 +135,18 @@ def drawing(title, below, blocks):
     return "\n".join([*drawn, "</svg>", ""])
 
 
-def draw_map(speed):
-    calls = [call for call in pages.CALLS if call not in ("iterate_back", "values", "peak")]
-    values = values_of(speed, "map")
-    ratios = {keys: ratios_of(sizes, pages.OURS, pages.THEIRS, calls) for keys, sizes in values.items()}
+def draw_map():
+    ratios = ratios_of(pages, "map", pages.THEIRS, pages.SHOWN_CALLS)
     title = "Map beside BTreeMap of Rattle's std"
     below = "Time of a call and memory of an entry, divided by those of BTreeMap: below the dashed line is better"
-    (DOCS / "speed.svg").write_text(drawing(title, below, {"": (calls, ratios)}), encoding="utf-8")
+    (DOCS / "speed.svg").write_text(drawing(title, below, {"": (pages.SHOWN_CALLS, ratios)}), encoding="utf-8")
 
 
-def draw_library(speed):
-    calls = library.CALLS
-    blocks = {}
-    for keys, sizes in values_of(speed, "library").items():
-        blocks[keys] = (calls, {theirs: ratios_of(sizes, library.OURS, theirs, calls) for theirs in library.OTHERS})
+def draw_library():
+    calls, blocks = library.CALLS, {}
+    for theirs in library.OTHERS:
+        for keys, sizes in ratios_of(library, "library", theirs, calls).items():
+            blocks.setdefault(keys, (calls, {}))[1][theirs] = sizes
     title = "The library for C beside other ordered maps"
     below = "Time of a call and memory of an entry, divided by those of the other map: below the dashed line is better"
     (DOCS / "speed-bindings.svg").write_text(drawing(title, below, blocks), encoding="utf-8")

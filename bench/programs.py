@@ -1,7 +1,7 @@
 """Times programs on inputs made from a seed, and compares what they write with what is due.
 
-A program is run itself, not by its launcher, which looks first whether a source has changed. A time is the median of
-five runs, with the start of the process; another way to the same answers is timed once, on what is in memory already.
+A program is run itself, not by its launcher, which looks first whether a source has changed. A time is the median of some
+runs, with the start of the process; another way to the same answers is timed once, on what is in memory already.
 """
 
 import dataclasses
@@ -14,7 +14,10 @@ import tempfile
 import time
 from collections.abc import Callable
 
-from shared import RUNS, built, fail, place_and_time, say, table_of
+import idle
+from maps import Taken as Runs
+from maps import keep, spread_of
+from shared import built, fail, place_and_time, say, table_of
 
 HEAD = ["Program", "Input", "Lines", "Seconds", "Lines a second", "In and out", "Peak memory", "Beside", "Its seconds"]
 
@@ -67,21 +70,25 @@ def written(folder, name, lines):
 
 @dataclasses.dataclass
 class Taken:
-    """What a task took: the seconds, the bytes of input and output, the peak, the seconds of the other way."""
+    """What a task took: the seconds of each run, the bytes of input and output, the peak, the seconds of the other way."""
 
-    seconds: float
+    runs: list
     moved: int
     peak: int
     theirs: float
 
+    @property
+    def seconds(self):
+        return statistics.median(self.runs)
 
-def measured(program, task):
+
+def measured(program, task, runs):
     with tempfile.TemporaryDirectory() as folder:
         given = written(folder, "input", task.lines)
         command = [program, *task.words]
         if task.table is not None:
             command.append(written(folder, "table", task.table))
-        seconds = statistics.median(seconds_of_run(command, given) for _ in range(RUNS))
+        seconds = [seconds_of_run(command, given) for _ in range(runs)]
         output, peak = output_and_peak(command, given)
         moved = sum(path.stat().st_size for path in pathlib.Path(folder).iterdir()) + len(output)
     start = time.perf_counter()
@@ -108,7 +115,7 @@ def row_of(name, other, task, taken):
         f"`{name}`",
         task.what,
         f"{lines:,}",
-        f"{taken.seconds:.3g}",
+        f"{taken.seconds:.3g}{spread_of(taken.runs)}",
         f"{lines / taken.seconds:,.0f}",
         f"{taken.moved / 2**20:.1f} MiB",
         f"{taken.peak / 2**20:.0f} MiB",
@@ -117,16 +124,21 @@ def row_of(name, other, task, taken):
     ]
 
 
-def measure_programs(programs, rng, sizes):
-    """The table of what these take."""
-    rows = [HEAD]
+def measure_programs(programs, rng, sizes, runs, is_busy_allowed):
+    """The table of what these take, whether the machine was idle, and a function that keeps the runs in bench/results."""
+    rows, cases = [HEAD], {}
+    paths = {name: built(bench.CRATE) for name, bench in programs.items()}
+    idle.wait_until_idle(is_busy_allowed)
+    others = idle.Others()
     for name, bench in programs.items():
-        program = built(bench.CRATE)
         before = None
         for task in bench.tasks(rng, sizes or bench.SIZES):
             say(f"{name}: {task.what}")
-            taken = measured(program, task)
+            taken = measured(paths[name], task, runs)
             check_limits(task, taken, before)
             rows.append(row_of(name, bench.BESIDE, task, taken))
+            cases.setdefault((task.what, len(task.lines)), {})[name, "milliseconds"] = [1000 * it for it in taken.runs]
             before = taken
-    return f"{place_and_time()}:\n\n{table_of(rows)}"
+    share = others.share()
+    where = f"{place_and_time()}, {idle.in_words(share)}; {runs} runs"
+    return f"{where}:\n\n{table_of(rows)}", share <= idle.MOST, lambda: keep("programs", Runs(where, cases, share))

@@ -1,4 +1,4 @@
-"""What all benches share: building, medians and the tables in documents."""
+"""What all benches share: building, and the tables in documents."""
 
 import datetime
 import hashlib
@@ -6,13 +6,12 @@ import os
 import pathlib
 import re
 import shutil
-import statistics
 import subprocess
 import sys
 import tempfile
 
 REPOSITORY = pathlib.Path(__file__).resolve().parent.parent
-RUNS = 5
+RUNS = 7
 
 
 def say(text):
@@ -71,27 +70,19 @@ def built_of_bench(program):
     return kept
 
 
+def built_library():
+    """The folder with the library for C of these sources."""
+    found = subprocess.run([REPOSITORY / "bindings" / "library"], stdout=subprocess.PIPE, text=True)
+    if found.returncode != 0:
+        fail("there is no libart.a of these sources")
+    return pathlib.Path(found.stdout.strip())
+
+
 def table_of(rows):
     """Rows of cells as a table, the first row its head."""
-    head, *others = rows
+    head, *others = ([cell.replace("|", r"\|") for cell in row] for row in rows)
     lines = [head, ["---"] * len(head), *others]
     return "\n".join(f"|{'|'.join(line)}|" for line in lines)
-
-
-def rows_of(table):
-    """The cells of a table's rows, by the names in its head."""
-    lines = (line for line in table.splitlines() if line.startswith("|"))
-    head, _, *lines = ([cell.strip() for cell in line[1:-1].split("|")] for line in lines)
-    return [dict(zip(head, line)) for line in lines]
-
-
-def spread_of(cells, runs=RUNS):
-    """How far the runs of each cell lie apart, in a sentence."""
-    apart = sorted((max(cell) - min(cell)) / statistics.median(cell) for cell in cells)
-    return (
-        f"the greatest and the least of {runs} runs lie apart by {statistics.median(apart):.0%} of their median or less in"
-        f" half of the cells, by {apart[len(apart) * 9 // 10]:.0%} or less in nine of ten"
-    )
 
 
 def place_and_time():
@@ -103,12 +94,6 @@ def place_and_time():
 
 def marks_of(name):
     return f"<!-- written by bench/run --write: {name} -->", f"<!-- end of {name} -->"
-
-
-def marked(text, name):
-    """What stands between the marks of this name."""
-    begin, end = marks_of(name)
-    return text.split(begin)[1].split(end)[0].strip()
 
 
 def replace_marked(path, name, inside):

@@ -7,7 +7,7 @@
 // beside4 or beside6 (an attacker's tables, with routes around and beside ROUTES addresses).
 //
 // It makes each table in turn, beginning with that of the number FIRST, and times its calls. It writes a line for each table and
-// call: the nanoseconds of processor time for one route or address, of look-ups in the fastest of some passes, and the bytes
+// call: the nanoseconds of processor time for one route or address, of few look-ups in the fastest of five passes, and the bytes
 // that malloc has given out for a route. It fails where two tables differ in what their calls return. Under valgrind's
 // callgrind, which then counts the instructions of each call, there is one pass: bench/instructions runs it so.
 #include "../bindings/c/art.h"
@@ -149,9 +149,12 @@ template <class Table> static uint64_t update(Table &table, const Work &work, si
     return sum;
 }
 
+// How often so many look-ups are timed: few of them, more than once.
+static size_t passes_of(size_t count) { return RUNNING_ON_VALGRIND || count >= 500000 ? 1 : 5; }
+
 template <class Table> static std::vector<uint64_t> measure(const char *name, const Work &work) {
     Timer timer(name);
-    size_t passes = RUNNING_ON_VALGRIND ? 1 : 5, size = work.routes.size();
+    size_t size = work.routes.size();
     double before = held();
     auto made = new Table;
     Table &table = *made;
@@ -163,14 +166,16 @@ template <class Table> static std::vector<uint64_t> measure(const char *name, co
     timer.write("bytes", (held() - before) / static_cast<double>(size));
     auto look_up = [&](const char *call, const std::vector<uint8_t> &addresses) {
         if (addresses.empty()) return;
-        timer.keep(timer.time(call, addresses.size() / width, passes, [&] { return sum_of(table, addresses); }));
+        size_t count = addresses.size() / width;
+        timer.keep(timer.time(call, count, passes_of(count), [&] { return sum_of(table, addresses); }));
     };
     look_up("match", work.hits);
     look_up("miss", work.misses);
     look_up("mixed", work.mixed);
     if constexpr (std::is_same_v<Table, Library>) {
         const auto &addresses = work.mixed.empty() ? work.hits.empty() ? work.misses : work.hits : work.mixed;
-        uint64_t many = timer.time("many", addresses.size() / width, passes, [&] {
+        size_t count = addresses.size() / width;
+        uint64_t many = timer.time("many", count, passes_of(count), [&] {
             uint64_t sum = 0;
             table.match_many(addresses, [&](const Match &match) { add(sum, match); });
             return sum;
@@ -190,7 +195,7 @@ template <class Table> static std::vector<uint64_t> measure(const char *name, co
     return timer.all();
 }
 
-static Work work_of(const std::string &shape, size_t size) {
+static Work work_of(const std::string &shape, size_t size, bool only_routes) {
     bool is_counted = RUNNING_ON_VALGRIND;
     size_t least = is_counted ? 10000 : 100000;
     Random rng(size);
@@ -198,6 +203,7 @@ static Work work_of(const std::string &shape, size_t size) {
     std::string kind = shape.substr(0, shape.size() - 1);
     if (kind == "ipv" || kind == "bgp") {
         work.routes = kind == "ipv" ? random_routes(rng, size) : public_routes(rng, size);
+        if (only_routes) return work;
         size_t count = is_counted ? least : kind == "ipv" ? size : std::max(size, least);
         work.hits = inside(rng, work.routes, count);
         work.misses = outside(rng, work.routes, count, kind == "bgp" && is_ipv6());
@@ -228,7 +234,7 @@ int main(int count, char **words) {
     size_t size = std::strtoul(words[only_routes ? 3 : 2], nullptr, 10), first = std::strtoul(words[3], nullptr, 10);
     require(!shape.empty() && (shape.back() == '4' || shape.back() == '6') && size, "no such shape, or no routes");
     width = shape.back() == '4' ? 4 : 16;
-    Work work = work_of(shape, size);
+    Work work = work_of(shape, size, only_routes);
     if (only_routes) {
         print_routes(work.routes);
         return 0;

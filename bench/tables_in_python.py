@@ -14,6 +14,7 @@ from pathlib import Path
 BITS = {"ipv4": 32, "ipv6": 128, "bgp4": 32, "bgp6": 128}
 PROGRAM = Path(__file__).resolve().parent / "out" / "tables"
 FAMILIES = {32: socket.AF_INET, 128: socket.AF_INET6}
+MOST_ADDRESSES = 200_000  # of a call
 # How many routes take so many pages that these say what one takes.
 LEAST_IN_PAGES = 10_000
 # How many of a hundred routes have each length, about as in the tables of routers.
@@ -113,9 +114,10 @@ def main(which, shape, size):
     rng, bits, size = random.Random(int(size)), BITS[shape], int(size)
     routes = some_routes(rng, bits, size) if shape.startswith("ipv") else public_routes(shape, size)
     texts = [f"{text_of(address, bits)}/{length}" for address, length in routes]
-    inside = [address | rng.getrandbits(bits - length) for address, length in rng.choices(routes, k=size)]
+    looked_up = min(size, MOST_ADDRESSES)
+    inside = [address | rng.getrandbits(bits - length) for address, length in rng.choices(routes, k=looked_up)]
     hits = [text_of(it, bits) for it in inside]
-    misses, again = some_misses(rng, bits, routes, size), rng.sample(texts, size)
+    misses, again = some_misses(rng, bits, routes, looked_up), rng.sample(texts, size)
     del routes, inside
     calls = {"RouteTable": of_library, "Radix": of_radix}[which]()
     given = {"insert": texts, "match": hits, "miss": misses, "many": hits, "remove": again}
@@ -125,7 +127,7 @@ def main(which, shape, size):
     for call, body in calls.items():
         start = time.process_time_ns()
         sums[call] = body(given[call])
-        print(call, (time.process_time_ns() - start) / size, sep="\t")
+        print(call, (time.process_time_ns() - start) / len(given[call]), sep="\t")
         if call == "insert" and size >= LEAST_IN_PAGES:
             print("bytes", (held() - before) / size, sep="\t")
     if sums["miss"] != 0 or sums.get("many", sums["match"]) != sums["match"]:
