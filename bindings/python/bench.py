@@ -94,6 +94,12 @@ def calls_of_maps(keys, choose):
     count, again, other = len(keys), choose.sample(keys, len(keys)), choose.sample(other_objects(keys), len(keys))
     as_dict, pairs, half = dict.fromkeys(keys, 1), [(key, 1) for key in keys], dict.fromkeys(keys[::2], 1)
     some, few, tenth, places = again[:10_000], choose.sample(keys, 100), dict.fromkeys(choose.sample(keys, count // 10), 2), [choose.randrange(count) for _ in range(1000)]
+
+    def looked_up(kind):
+        made = kind(as_dict)
+        get(made, again)
+        return made
+
     calls = {
         "insert": (lambda kind: kind(), lambda made: insert(made, keys), count),
         "a dict at once": (None, lambda made: type(made)(as_dict), count),
@@ -121,7 +127,7 @@ def calls_of_maps(keys, choose):
         "index": (None, lambda made: each(made, "index", some), len(some)),
         "peekitem": (None, lambda made: each(made, "peekitem", places), 1000),
         "copy": (None, lambda made: made.copy(), count),
-        "==": (None, lambda made: made == as_dict, count),
+        "==": (looked_up, lambda made: made == as_dict, count),
         "==, first time": (lambda kind: kind(as_dict), lambda made: made == as_dict, count),
         "== its own kind": (lambda kind: (kind(as_dict), kind(as_dict)), lambda two: two[0] == two[1], count),
     }

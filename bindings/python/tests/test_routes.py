@@ -381,6 +381,15 @@ class BesideRadix(unittest.TestCase):
 
 
 class Calls(unittest.TestCase):
+    def test_it_has_the_names_of_pytricia(self):
+        for name in "children delete get get_key has_key insert keys parent __contains__ __delitem__ __getitem__ __iter__ __len__ __setitem__".split():
+            self.assertTrue(callable(getattr(RouteTable, name)))
+        table = RouteTable()
+        for number, key in enumerate(("10.0.0.0/16", ("10.1.0.0", 16), ipaddress.ip_network("10.2.0.0/16"), (ipaddress.ip_address("10.3.0.0"), 16), (b"\x0a\4\0\0", 16))):
+            table[key] = number
+            self.assertEqual((table[key], table.get_key(key), table.has_key(key), key in table), (number, f"10.{number}.0.0/16", True, True))
+        self.assertRaises(TypeError, table.get, 0x0A000000)
+
     def test_worked_rows(self):
         table = RouteTable({"10.0.0.0/8": "office", "10.1.0.0/16": "lab"})
         table[ipaddress.ip_network("2001:db8::/32")] = "guests"

@@ -180,7 +180,10 @@ class SortedMap(_core.Core, MutableMapping):
     def __eq__(self, other):
         if not isinstance(other, Mapping):
             return NotImplemented
-        return len(self) == len(other) and self._equals(other if type(other) is dict else dict(other.items()))
+        if len(self) != len(other):
+            return False
+        equal = self._equals(other) if type(other) in (dict, SortedMap) else None
+        return self._equals(dict(other.items())) if equal is None else equal
 
     __hash__ = None
 
@@ -339,10 +342,14 @@ class SortedSet(_core.SetCore, MutableSet, Sequence):
 
     def isdisjoint(self, other):
         """Whether no key is in both."""
+        if isinstance(other, (set, frozenset)):
+            return self._has_none(other, _OF_BOTH)
         return not self._chosen(other, _OF_BOTH)
 
     def issubset(self, other):
         """Whether each key is in the other one."""
+        if isinstance(other, (set, frozenset)):
+            return len(self) <= len(other) and self._has_none(other, _OF_FIRST)
         return not self._chosen(other, _OF_FIRST)
 
     def issuperset(self, other):
@@ -350,7 +357,10 @@ class SortedSet(_core.SetCore, MutableSet, Sequence):
         if isinstance(other, SortedSet):
             return other.issubset(self)
         there = other if isinstance(other, (set, frozenset)) else set(other)
-        return len(there) <= len(self) and self._chosen_by(there, 0) == len(there)
+        if len(there) > len(self):
+            return False
+        known = self._has_each(there)
+        return len(self._chosen_by(there, _OF_BOTH)) == len(there) if known is None else known
 
     def __or__(self, other):
         return self.union(other) if isinstance(other, Set) else NotImplemented
@@ -399,7 +409,12 @@ class SortedSet(_core.SetCore, MutableSet, Sequence):
         return self
 
     def __eq__(self, other):
-        return len(self) == len(other) and self.issubset(other) if isinstance(other, Set) else NotImplemented
+        if not isinstance(other, Set):
+            return NotImplemented
+        if len(self) != len(other):
+            return False
+        equal = self._equals(other)
+        return self.issubset(other) if equal is None else equal
 
     def __le__(self, other):
         return len(self) <= len(other) and self.issubset(other) if isinstance(other, Set) else NotImplemented

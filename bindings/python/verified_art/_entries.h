@@ -201,6 +201,7 @@ static int add(Core *self, PyObject *key, const Sought *sought, Position before,
     }
     Py_INCREF(value);
     add_entry(&self->order, before, kept, value);
+    add_slot(&self->memo, &self->order, kept, (size_t)place);
     return 0;
 }
 
@@ -212,13 +213,14 @@ static int set_value(Entry *entry, PyObject *value) {
     return 0;
 }
 
-static int set_sought(Core *self, PyObject *key, const Sought *sought, PyObject *value) {
-    if (self->was_there) {
+/* Sets a key that was read, of which `is_absent` says that it is known not to be there. */
+static int set_sought(Core *self, PyObject *key, const Sought *sought, bool is_absent, PyObject *value) {
+    if (self->was_there && !is_absent) {
         size_t place;
         int found = find_key(self, sought, &place);
         if (found < 0) return -1;
         if (found) {
-            remember(&self->memo, self->form.letters[0], &self->order, key, place);
+            count_asked(&self->memo, self->form.letters[0], &self->order, key);
             return set_value(&self->order.entries[place], value);
         }
     }
@@ -243,14 +245,15 @@ static int has_no_place(const Sought *sought) {
 /* Sets a plain key. */
 static int set_plain(Core *self, PyObject *key, PyObject *value) {
     Sought sought;
-    Entry *recalled = self->was_there ? recall(&self->memo, self->form.letters[0], &self->order, key) : NULL;
-    if (recalled) return set_value(recalled, value);
+    Entry *recalled;
+    int known = recall(&self->memo, self->form.letters[0], &self->order, key, &recalled);
+    if (known == 1) return set_value(recalled, value);
     if (read_for(self, key, &sought) < 0) return -1;
     bool is_first = self->form.letters[0] == NO_KEYS;
     Form form;
     int done = sought.where != WITHIN ? has_no_place(&sought) : is_first && (form_of(key, &form) < 0 || make_map(self, &form) < 0) ? -1 : 0;
     if (done == 0) {
-        done = set_sought(self, key, &sought, value);
+        done = set_sought(self, key, &sought, known == 0, value);
         /* The code that an error ran may have set other keys. */
         if (done < 0 && is_first && self->order.count == 0) free_map(self);
     }
@@ -284,18 +287,22 @@ static int take(Core *self, PyObject *key, Entry *taken) {
     return status <= ART_SOME ? (int)status : refused(status);
 }
 
-/* Finds the entry of a key: 1, or 0 where there is none, or -1 with an error set. */
-static inline int look(Core *self, PyObject *key, const Entry **entry) {
+/* Asks the library for the entry of a key. */
+static int ask(Core *self, PyObject *key, Entry **entry) {
     Sought sought;
     size_t place;
-    if ((*entry = recall(&self->memo, self->form.letters[0], &self->order, key))) return 1;
     if (read_for(self, key, &sought) < 0) return -1;
     int found = find_key(self, &sought, &place);
     let_go(&sought);
-    if (found != 1) return found;
-    remember(&self->memo, self->form.letters[0], &self->order, key, place);
-    *entry = &self->order.entries[place];
-    return 1;
+    if (found == 1) *entry = &self->order.entries[place];
+    if (found >= 0) count_asked(&self->memo, self->form.letters[0], &self->order, key);
+    return found;
+}
+
+/* Finds the entry of a key: 1, or 0 where there is none, or -1 with an error set. */
+static inline int look(Core *self, PyObject *key, Entry **entry) {
+    int known = recall(&self->memo, self->form.letters[0], &self->order, key, entry);
+    return known >= 0 ? known : ask(self, key, entry);
 }
 
 static void empty(Core *self) {

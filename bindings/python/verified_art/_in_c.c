@@ -43,6 +43,10 @@ static int wrong_arguments(const Takes *takes) {
 /* Puts the arguments of a call in order; NULL: it is not given. */
 static int take_arguments(const Takes *takes, PyObject *const *given, Py_ssize_t positional, PyObject *names, PyObject **arguments) {
     if (positional > takes->count) return wrong_arguments(takes);
+    if (!names && positional >= takes->needed) {
+        for (Py_ssize_t at = 0; at < takes->count; at++) arguments[at] = at < positional ? given[at] : NULL;
+        return 0;
+    }
     for (Py_ssize_t at = 0; at < takes->count; at++) arguments[at] = at < positional ? given[at] : NULL;
     Py_ssize_t named = names ? PyTuple_Size(names) : 0;
     for (Py_ssize_t other = 0; other < named; other++) {
@@ -78,7 +82,7 @@ static Py_ssize_t read_slice_bound(Core *self, PyObject *bound, Py_ssize_t other
 /* ---- the calls of both */
 
 static int core_contains(Core *self, PyObject *key) {
-    const Entry *entry;
+    Entry *entry;
     return look(self, key, &entry);
 }
 
@@ -208,7 +212,7 @@ static PyObject *core_bisect_right(Core *self, PyObject *key) {
 static PyObject *core_index(Core *self, PyObject *const *given, Py_ssize_t positional, PyObject *names) {
     static const Takes takes = {"index", {"key", "start", "stop"}, 3, 1};
     PyObject *arguments[3];
-    const Entry *entry;
+    Entry *entry;
     if (take_arguments(&takes, given, positional, names, arguments) < 0) return NULL;
     Py_ssize_t start = read_slice_bound(self, arguments[1], 0), stop = start < 0 ? -1 : read_slice_bound(self, arguments[2], PY_SSIZE_T_MAX);
     if (stop < 0) return NULL;
@@ -222,7 +226,7 @@ static PyObject *core_index(Core *self, PyObject *const *given, Py_ssize_t posit
 /* ---- the calls of a map */
 
 static PyObject *map_get_item(Core *self, PyObject *key) {
-    const Entry *entry;
+    Entry *entry;
     int found = look(self, key, &entry);
     if (found == 0) PyErr_SetObject(PyExc_KeyError, key);
     if (found <= 0) return NULL;
@@ -245,7 +249,7 @@ static PyObject *map_get(Core *self, PyObject *const *given, Py_ssize_t position
     static const Takes takes = {"get", {"key", "default"}, 2, 1};
     PyObject *arguments[2];
     if (take_arguments(&takes, given, positional, names, arguments) < 0) return NULL;
-    const Entry *entry;
+    Entry *entry;
     int found = look(self, arguments[0], &entry);
     if (found < 0) return NULL;
     PyObject *value = found ? entry->value : arguments[1] ? arguments[1] : Py_None;
@@ -257,7 +261,7 @@ static PyObject *map_setdefault(Core *self, PyObject *const *given, Py_ssize_t p
     static const Takes takes = {"setdefault", {"key", "default"}, 2, 1};
     PyObject *arguments[2];
     if (take_arguments(&takes, given, positional, names, arguments) < 0) return NULL;
-    const Entry *entry;
+    Entry *entry;
     int found = look(self, arguments[0], &entry);
     PyObject *value = found == 1 ? entry->value : arguments[1] ? arguments[1] : Py_None;
     Py_INCREF(value);
@@ -376,33 +380,14 @@ static PyObject *map_set_keys(Core *self, PyObject *const *given, Py_ssize_t pos
     return PyErr_Format(PyExc_TypeError, "_set_keys takes keys and a value");
 }
 
-/* Whether the value of a key in a dict is equal to one of the map's: 1 or 0, or -1 with an error set. */
-static int has_equal(PyObject *dict, PyObject *key, PyObject *value) {
-    Py_INCREF(key);
-    Py_INCREF(value);
-    PyObject *its = PyDict_GetItemWithError(dict, key);
-    Py_XINCREF(its);
-    int equal = its ? PyObject_RichCompareBool(value, its, Py_EQ) : PyErr_Occurred() ? -1 : 0;
-    Py_XDECREF(its);
-    Py_DECREF(value);
-    Py_DECREF(key);
-    return equal;
-}
+#include "_equal.h"
 
-/* _equals(dict): whether a dict of as many entries has the same ones. */
-static PyObject *map_equals(Core *self, PyObject *dict) {
-    if (!PyDict_Check(dict)) return PyErr_Format(PyExc_TypeError, "_equals takes a dict");
-    size_t changes = self->order.changes;
-    int equal = 1;
-    for (const Block *block = self->order.first; block && equal == 1; block = block->after) {
-        for (size_t at = 0; at < block->count && equal == 1; at++) {
-            equal = has_equal(dict, block->keys[at], self->order.entries[block->places[at]].value);
-            /* What was compared may have run any code. */
-            if (self->order.changes != changes && equal >= 0) return PyErr_Format(PyExc_RuntimeError, "the map changed while it was compared");
-            if (equal < 0) return NULL;
-        }
-    }
-    return PyBool_FromLong(equal);
+/* _equals(other): whether a dict or a SortedMap of as many entries has the same ones; None: it has to be compared as a dict. */
+static PyObject *map_equals(Core *self, PyObject *other) {
+    int equal = PyDict_Check(other) ? equals_dict(self, other) : PyObject_TypeCheck(other, map_type) ? equals_map(self, (Core *)other) : -1;
+    if (PyErr_Occurred()) return NULL;
+    if (equal >= 0) return PyBool_FromLong(equal);
+    Py_RETURN_NONE;
 }
 
 #include "_set.h"
@@ -508,6 +493,9 @@ static PyMethodDef set_methods[] = {
     {"_add_each", (PyCFunction)set_add_each, METH_O, NULL},
     {"_merged", WITHOUT_NAMES(set_merged), NULL},
     {"_chosen_by", WITHOUT_NAMES(set_chosen_by), NULL},
+    {"_has_none", WITHOUT_NAMES(set_has_none), NULL},
+    {"_has_each", (PyCFunction)set_has_each, METH_O, NULL},
+    {"_equals", (PyCFunction)set_equals, METH_O, NULL},
     {NULL, NULL, 0, NULL},
 };
 

@@ -103,6 +103,7 @@ typedef struct Piece {
 typedef struct {
     bool by_number;
     size_t count;
+    size_t common, len; /* how many bytes all texts begin with alike, and have in all */
     Ranked *ranked, *room;
     Text *texts; /* by the index; not by number */
     Piece *pieces;
@@ -140,11 +141,22 @@ static const uint8_t *keep_bytes(Sorted *sorted, const uint8_t *bytes, size_t le
     return kept;
 }
 
-static uint64_t head_of(const Text *text, size_t skip) {
-    uint64_t head = 0;
-    size_t len = text->len - skip, count = len < 8 ? len : 8;
-    for (size_t at = 0; at < count; at++) head |= (uint64_t)text->bytes[skip + at] << (56 - 8 * at);
-    return head;
+/* Eight and four bytes as a number, the first one above: written so that a compiler reads them at once. */
+static inline uint64_t eight_bytes(const uint8_t *bytes) {
+    return (uint64_t)bytes[0] << 56 | (uint64_t)bytes[1] << 48 | (uint64_t)bytes[2] << 40 | (uint64_t)bytes[3] << 32 | (uint64_t)bytes[4] << 24 |
+           (uint64_t)bytes[5] << 16 | (uint64_t)bytes[6] << 8 | bytes[7];
+}
+
+static inline uint64_t four_bytes(const uint8_t *bytes) {
+    return (uint32_t)bytes[0] << 24 | (uint32_t)bytes[1] << 16 | (uint32_t)bytes[2] << 8 | bytes[3];
+}
+
+/* The first eight bytes, with zeros where there are fewer: by reads that may overlap. */
+static inline uint64_t head_of(const uint8_t *bytes, size_t len) {
+    if (len >= 8) return eight_bytes(bytes);
+    if (len >= 4) return four_bytes(bytes) << 32 | four_bytes(bytes + len - 4) << (64 - 8 * len);
+    if (len == 0) return 0;
+    return (uint64_t)bytes[0] << 56 | (uint64_t)bytes[len / 2] << (56 - 8 * (len / 2)) | (uint64_t)bytes[len - 1] << (64 - 8 * len);
 }
 
 static inline int compare_ranked(const Text *texts, const Ranked *one, const Ranked *other) {
@@ -158,7 +170,7 @@ static inline int compare_ranked(const Text *texts, const Ranked *one, const Ran
 
 /* Sorts by merging, so that equal ones keep their order. */
 static void merge_sort(const Text *texts, Ranked *ranked, Ranked *room, size_t count) {
-    if (count <= 8) {
+    if (count <= 12) {
         for (size_t at = 1; at < count; at++) {
             Ranked moved = ranked[at];
             size_t to = at;
@@ -175,56 +187,42 @@ static void merge_sort(const Text *texts, Ranked *ranked, Ranked *room, size_t c
     memcpy(&ranked[to], &room[low], (half - low) * sizeof *ranked);
 }
 
-/* Sorts by the heads alone, a digit of them after another, of those digits that differ. */
-static void sort_by_heads(Sorted *sorted) {
-    enum { BITS = 11, DIGITS = 1 << BITS };
-    uint64_t differ = 0;
-    for (size_t at = 1; at < sorted->count; at++) differ |= sorted->ranked[at].head ^ sorted->ranked[0].head;
-    for (unsigned shift = 0; shift < 64; shift += BITS) {
-        uint32_t begins[DIGITS] = {0}, begun = 0;
-        if (!(differ >> shift & (DIGITS - 1))) continue;
-        for (size_t at = 0; at < sorted->count; at++) begins[sorted->ranked[at].head >> shift & (DIGITS - 1)]++;
-        for (size_t digit = 0; digit < DIGITS; digit++) {
-            uint32_t its = begins[digit];
-            begins[digit] = begun;
-            begun += its;
-        }
-        for (size_t at = 0; at < sorted->count; at++) sorted->room[begins[sorted->ranked[at].head >> shift & (DIGITS - 1)]++] = sorted->ranked[at];
-        Ranked *ranked = sorted->ranked;
-        sorted->ranked = sorted->room;
-        sorted->room = ranked;
+/* Sorts by the highest digit in which heads differ, and then what has the same one. Equal ones keep their order. */
+static void sort_by_digits(const Text *texts, Ranked *ranked, Ranked *room, size_t count) {
+    enum { MOST_BITS = 10, FEW = 64 };
+    uint64_t least = UINT64_MAX, most = 0;
+    for (size_t at = 0; at < count; at++) {
+        least = ranked[at].head < least ? ranked[at].head : least;
+        most = ranked[at].head > most ? ranked[at].head : most;
     }
-}
-
-/* How many bytes all texts begin with alike. */
-static size_t common_len(const Text *texts, size_t count) {
-    size_t common = texts[0].len;
-    for (size_t at = 1; at < count && common > 0; at++) {
-        size_t len = 0;
-        if (common > texts[at].len) common = texts[at].len;
-        while (len < common && texts[at].bytes[len] == texts[0].bytes[len]) len++;
-        common = len;
+    if (count < FEW || least == most) {
+        merge_sort(texts, ranked, room, count);
+        return;
     }
-    return common;
+    unsigned bits = 64 - (unsigned)__builtin_clzll(most - least), shift = bits > MOST_BITS ? bits - MOST_BITS : 0;
+    uint32_t ends[(1 << MOST_BITS) + 1];
+    size_t digits = (size_t)((most - least) >> shift) + 1;
+    memset(ends, 0, (digits + 1) * sizeof *ends);
+    for (size_t at = 0; at < count; at++) ends[((ranked[at].head - least) >> shift) + 1]++;
+    for (size_t digit = 1; digit <= digits; digit++) ends[digit] += ends[digit - 1];
+    for (size_t at = 0; at < count; at++) room[ends[(ranked[at].head - least) >> shift]++] = ranked[at];
+    memcpy(ranked, room, count * sizeof *ranked);
+    for (size_t digit = 0, begun = 0; digit < digits; begun = ends[digit++])
+        if (ends[digit] - begun > 1) sort_by_digits(texts, &ranked[begun], &room[begun], ends[digit] - begun);
 }
 
 /* Sorts the keys; equal ones keep their order. */
 static void sort(Sorted *sorted) {
     size_t count = sorted->count, at = 1;
-    if (sorted->texts) {
-        size_t skip = common_len(sorted->texts, count);
-        for (size_t index = 0; index < count; index++) sorted->ranked[index].head = head_of(&sorted->texts[index], skip);
-    }
+    /* What all texts begin with alike says nothing. */
+    for (size_t index = 0; sorted->texts && sorted->common > 0 && index < count; index++)
+        sorted->ranked[index].head = head_of(sorted->texts[index].bytes + sorted->common, sorted->texts[index].len - sorted->common);
     while (at < count && compare_ranked(sorted->texts, &sorted->ranked[at - 1], &sorted->ranked[at]) <= 0) at++;
     if (at == count) return;
-    if (count < 1000 || count > UINT32_MAX) {
+    if (count > UINT32_MAX) {
         merge_sort(sorted->texts, sorted->ranked, sorted->room, count);
-        return;
-    }
-    sort_by_heads(sorted);
-    for (size_t begun = 0; sorted->texts && begun < count; begun = at) {
-        for (at = begun + 1; at < count && sorted->ranked[at].head == sorted->ranked[begun].head;) at++;
-        if (at - begun > 1) merge_sort(sorted->texts, &sorted->ranked[begun], sorted->room, at - begun);
+    } else {
+        sort_by_digits(sorted->texts, sorted->ranked, sorted->room, count);
     }
 }
 
@@ -241,6 +239,17 @@ static void join_equal(Sorted *sorted) {
 
 /* ---- reading */
 
+/* Keeps a text, its head, and how many bytes it has in common with those before. */
+static inline void rank_text(Sorted *sorted, Text text, size_t index) {
+    const Text *first = sorted->texts;
+    size_t most = index == 0 || text.len < sorted->common ? text.len : sorted->common, common = 0;
+    sorted->texts[index] = text;
+    sorted->ranked[index] = (Ranked){head_of(text.bytes, text.len), index};
+    while (common < most && text.bytes[common] == first->bytes[common]) common++;
+    sorted->common = common;
+    sorted->len += text.len;
+}
+
 /* Reads the key at an index, and keeps what it holds. -1: it is refused; no error is left set. */
 static int rank_key(Sorted *sorted, const Form *form, PyObject *key, size_t index) {
     Sought sought;
@@ -251,12 +260,12 @@ static int rank_key(Sorted *sorted, const Form *form, PyObject *key, size_t inde
         if (sorted->texts) {
             bool is_own = !sought.owner && !sought.written;
             const uint8_t *bytes = is_own ? sought.bytes : keep_bytes(sorted, sought.bytes, sought.len);
-            sorted->texts[index] = (Text){bytes, sought.len};
             if (!bytes) done = -1;
+            if (bytes) rank_text(sorted, (Text){bytes, sought.len}, index);
         }
         let_go(&sought);
     }
-    PyErr_Clear();
+    if (done < 0) PyErr_Clear();
     return done;
 }
 
@@ -270,6 +279,15 @@ static size_t rank_keys(Sorted *sorted, const Form *form, Pairs *pairs) {
     if (!sorted->ranked || !sorted->room || (!sorted->texts && !sorted->by_number)) return 0;
     for (size_t at = 0; at < count; at++) {
         PyObject *key = pairs->keys[at];
+        if (form->letters[0] == STR_KEYS && PyUnicode_CheckExact(key)) {
+            Py_ssize_t len;
+            const char *bytes = PyUnicode_AsUTF8AndSize(key, &len);
+            if (bytes) {
+                rank_text(sorted, (Text){(const uint8_t *)bytes, (size_t)len}, at);
+                continue;
+            }
+            PyErr_Clear();
+        }
         if (!is_plain(key)) {
             Form its;
             PyObject *plain = form_of(key, &its) == 0 && strcmp(its.letters, form->letters) == 0 ? plain_key(key) : NULL;
@@ -287,8 +305,7 @@ static size_t rank_keys(Sorted *sorted, const Form *form, Pairs *pairs) {
 
 /* Makes the library's map of sorted keys, each of which has its place by its order. */
 static uint32_t load_map(Sorted *sorted, art_bytes_map *by_bytes, art_u64_map *by_number) {
-    size_t count = sorted->count, len = 0;
-    for (size_t at = 0; sorted->texts && at < count; at++) len += sorted->texts[sorted->room[at].index].len;
+    size_t count = sorted->count, end = 0;
     sorted->places = PyMem_Malloc((count + 1) * sizeof(uint64_t));
     if (!sorted->places) return ART_NO_MEMORY;
     for (size_t at = 0; at < count; at++) sorted->places[at] = at;
@@ -303,10 +320,9 @@ static uint32_t load_map(Sorted *sorted, art_bytes_map *by_bytes, art_u64_map *b
         uint32_t status = art_u64_new(by_number);
         return status == ART_NONE ? art_u64_load(by_number, sorted->numbers, count, sorted->places, count) : status;
     }
-    sorted->bytes = PyMem_Malloc(len + 1);
+    sorted->bytes = PyMem_Malloc(sorted->len + 1);
     sorted->ends = PyMem_Malloc((count + 1) * sizeof(size_t));
     if (!sorted->bytes || !sorted->ends) return ART_NO_MEMORY;
-    size_t end = 0;
     for (size_t at = 0; at < count; at++) {
         /* What comes later lies anywhere. */
         if (at + 16 < count) __builtin_prefetch(&sorted->texts[sorted->room[at + 16].index]);
@@ -316,7 +332,7 @@ static uint32_t load_map(Sorted *sorted, art_bytes_map *by_bytes, art_u64_map *b
         sorted->ends[at] = end += text->len;
     }
     uint32_t status = art_bytes_new(by_bytes);
-    return status == ART_NONE ? art_bytes_load(by_bytes, sorted->bytes, len, sorted->ends, count, sorted->places, count) : status;
+    return status == ART_NONE ? art_bytes_load(by_bytes, sorted->bytes, end, sorted->ends, count, sorted->places, count) : status;
 }
 
 /* Takes a reference out of pairs. */
@@ -342,6 +358,10 @@ static bool make_anew(Core *self, const Form *form, Sorted *sorted, Pairs *pairs
     Block *block = NULL;
     for (size_t at = 0; at < sorted->count; at++) {
         Ranked *entry = &sorted->room[at];
+        if (at + 16 < sorted->count) {
+            __builtin_prefetch(&pairs->keys[sorted->room[at + 16].index], 1);
+            __builtin_prefetch(&pairs->values[sorted->room[at + 16].head], 1);
+        }
         block = append_entry(&order, block, taken(&pairs->keys[entry->index]), taken(&pairs->values[entry->head]));
     }
     free_map(self);
@@ -386,18 +406,20 @@ static size_t set_by_making_anew(Core *self, Pairs *pairs, size_t kept) {
 }
 
 /* Whether to make the map anew costs less than to set each pair: a key that is not there yet costs as much as four entries of a
-   map that is made, and one that is there as two. How many are there a few of them say. */
+   map that is made, and one that is there as two, or where it is found by its hash as half of one. How many are there a few of
+   them say. */
 static bool is_better_anew(Core *self, const Pairs *pairs) {
-    enum { FEW = 8 };
+    enum { FEW = 16, ENTRY = 2, NEW = 4 * ENTRY, THERE = 2 * ENTRY, HASHED = ENTRY / 2 };
     size_t count = (size_t)self->order.count, costs = 0;
-    if (pairs->count < 2 * FEW || count / 4 > pairs->count) return false;
+    if (pairs->count < FEW || count / 4 > pairs->count) return false;
     for (size_t at = 0; at < FEW && count > 0; at++) {
-        const Entry *entry;
-        int found = look(self, pairs->keys[at * (pairs->count / FEW)], &entry);
+        Entry *entry;
+        /* Anywhere, since keys that are there may come at equal distances. */
+        int found = look(self, pairs->keys[(at * UINT64_C(0x9E3779B97F4A7C15) >> 33) % pairs->count], &entry);
         if (found < 0) PyErr_Clear();
-        costs += found == 0 ? 4 : 2;
+        costs += found == 0 ? NEW : has_hashed_keys(self->form.letters[0]) ? HASHED : THERE;
     }
-    return count == 0 || count + pairs->count <= pairs->count / FEW * costs;
+    return count == 0 || (count + pairs->count) * ENTRY <= pairs->count / FEW * costs;
 }
 
 /* Sets pairs, which it lets go of; where one is refused, those before it are set. */

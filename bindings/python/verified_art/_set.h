@@ -1,6 +1,7 @@
 /* The calls of a SortedSet: its keys are entries without a value, which is None. */
 #ifndef SET_H
 #define SET_H
+#include "_equal.h"
 #include "_many.h"
 
 static PyObject *set_add(Core *self, PyObject *key) {
@@ -139,29 +140,88 @@ static int is_in(PyObject *there, PyObject *key) {
     return found;
 }
 
-/* _chosen_by(set, which): of the keys of this set those that are, or are not, in a set or frozenset, in a list in their order;
-   where neither is wanted, how many are in it. */
-static PyObject *set_chosen_by(Core *self, PyObject *const *given, Py_ssize_t positional) {
-    long which = read_which(given, positional, positional == 2 && PyAnySet_Check(given[0]));
-    PyObject *list = which > 0 ? PyList_New(0) : NULL;
-    if (which < 0 || (which > 0 && !list)) return NULL;
-    size_t changes = self->order.changes, count = 0;
+/* Puts the keys of this set that are wanted, by whether they are in a set or frozenset, into a list; without one it ends at the
+   first of them. 1, or 0 where it ended so, or -1 with an error set. */
+static int choose_by(Core *self, PyObject *there, long which, PyObject *list) {
+    size_t changes = self->order.changes;
     for (const Block *block = self->order.first; block; block = block->after) {
         for (size_t at = 0; at < block->count; at++) {
             PyObject *key = block->keys[at];
-            int found = is_in(given[0], key);
+            if (at + 8 < block->count) __builtin_prefetch(block->keys[at + 8]);
+            int found = is_in(there, key);
             if (found >= 0 && self->order.changes != changes) {
                 PyErr_SetString(PyExc_RuntimeError, "the set changed while it was compared");
                 found = -1;
             }
-            if (found >= 0 && which & (found ? OF_BOTH : OF_FIRST)) found = PyList_Append(list, key) < 0 ? -1 : found;
-            if (found < 0) {
-                Py_XDECREF(list);
-                return NULL;
-            }
-            count += (size_t)found;
+            if (found < 0) return -1;
+            if (!(which & (found ? OF_BOTH : OF_FIRST))) continue;
+            if (!list) return 0;
+            if (PyList_Append(list, key) < 0) return -1;
         }
     }
-    return list ? list : PyLong_FromSize_t(count);
+    return 1;
+}
+
+/* _chosen_by(set, which): of the keys of this set those that are, or are not, in a set or frozenset, in a list in their order. */
+static PyObject *set_chosen_by(Core *self, PyObject *const *given, Py_ssize_t positional) {
+    long which = read_which(given, positional, positional == 2 && PyAnySet_Check(given[0]));
+    PyObject *list = which < 0 ? NULL : PyList_New(0);
+    if (list && choose_by(self, given[0], which, list) < 0) Py_CLEAR(list);
+    return list;
+}
+
+/* _has_none(set, which): whether no key of this set is, or no one is not, in a set or frozenset. */
+static PyObject *set_has_none(Core *self, PyObject *const *given, Py_ssize_t positional) {
+    long which = read_which(given, positional, positional == 2 && PyAnySet_Check(given[0]));
+    int done = which < 0 ? -1 : choose_by(self, given[0], which, NULL);
+    return done < 0 ? NULL : PyBool_FromLong(done);
+}
+
+/* Takes the next keys of an iterator, up to as many as TOGETHER says: how many there were. */
+static size_t take_keys(PyObject *steps, PyObject **keys) {
+    size_t count = 0;
+    while (count < TOGETHER && (keys[count] = PyIter_Next(steps))) count++;
+    return count;
+}
+
+/* How many of some keys are in this set: UNKNOWN where one is of another type, or with an error set. */
+static Py_ssize_t count_there(Core *self, PyObject *const *keys, size_t count) {
+    Entry *found[TOGETHER];
+    Py_ssize_t there = 0;
+    for (size_t at = 0; at < count; at++)
+        if (!is_hashed(self->form.letters[0], keys[at])) return UNKNOWN;
+    bool has_slots = self->memo.slots != NULL;
+    if (has_slots) find_together(self, keys, count, found);
+    for (size_t at = 0; at < count; at++) {
+        int known = has_slots ? found[at] != NULL : look(self, keys[at], &found[at]);
+        if (known < 0) return UNKNOWN;
+        there += known;
+    }
+    return there;
+}
+
+/* _has_each(set): whether each key of a set or frozenset is in this one; None: the keys of this one have to be looked for in it. */
+static PyObject *set_has_each(Core *self, PyObject *set) {
+    PyObject *keys[TOGETHER], *steps = PyAnySet_CheckExact(set) ? PyObject_GetIter(set) : NULL;
+    if (!steps && PyErr_Occurred()) return NULL;
+    if (!steps) Py_RETURN_NONE;
+    Py_ssize_t there;
+    size_t count;
+    do {
+        count = take_keys(steps, keys);
+        there = count_there(self, keys, count);
+        for (size_t at = 0; at < count; at++) Py_DECREF(keys[at]);
+    } while (count == TOGETHER && there == TOGETHER);
+    Py_DECREF(steps);
+    if (PyErr_Occurred()) return NULL;
+    if (there != UNKNOWN) return PyBool_FromLong((size_t)there == count);
+    Py_RETURN_NONE;
+}
+
+/* _equals(set): whether a SortedSet of as many keys has the same ones; None: its keys are to be looked for. */
+static PyObject *set_equals(Core *self, PyObject *other) {
+    int equal = PyObject_TypeCheck(other, set_type) ? equals_map(self, (Core *)other) : UNKNOWN;
+    if (equal != UNKNOWN) return PyBool_FromLong(equal);
+    Py_RETURN_NONE;
 }
 #endif
