@@ -123,7 +123,7 @@ class Repository:
     # ---- specs/
 
     def module(self, path):
-        """The module at a path like `Rattle.leaf_map.specs.Changes`, or None where the repository has none."""
+        """The module at a path like `Rattle.art_routes.specs.Changes`, or None where the repository has none."""
         if path not in self._modules:
             parts = path.split(".")
             file = None

@@ -1,21 +1,17 @@
--- The routes that a network covers are those of a range.
-use Rattle.std.proofs.Common.{◌≡◌, ◌∙◌, ◌⊎◌, inl, inr, ℕ, ◌+◌, ◌-◌, ◌*◌, ◌/◌, ◌%◌, ◌^◌, ◌<◌, ◌≤◌, true, ◌&&◌, List, filter, sym, ap, arith, mul_comm}
+-- The networks that a network covers are those of a range.
+use Rattle.std.proofs.Common.{◌≡◌, ◌∙◌, ◌⊎◌, inl, inr, ℕ, ◌+◌, ◌-◌, ◌*◌, ◌/◌, ◌%◌, ◌^◌, ◌<◌, ◌≤◌, true, ◌&&◌, sym, ap, arith, mul_comm}
 use Rattle.std.specs.Prelude.{nat_le}
 use Rattle.std.specs.Ordering.{is_le, is_ge}
 use Rattle.std.proofs.Math.Nat.{div-mul-le_self, lt-div-mul-add}
 use Rattle.std.proofs.Math.Pow.{shr_mono}
 use Rattle.std.proofs.lemmas.Bool.{and_from, and_parts, cases_lt, le-leb, leb-true}
 use Rattle.std.proofs.lemmas.Nat.{mul-add-lt, pow_pos, shr-shr}
-use Rattle.art_bytes.specs.Text.{text_order}
-use Rattle.art_routes.specs.KeyLaws.{key_order}
-use Rattle.art_routes.specs.Keys.{key_text, last_network}
+use Rattle.art_routes.specs.Keys.{last_network}
 use Rattle.art_routes.specs.Networks.{Block, IsNetwork, contains, covers, network_order}
-use Rattle.art_routes.specs.Tables.{covered}
 use Rattle.art_routes.proofs.BitLemmas.{none_behind}
 use Rattle.art_routes.proofs.CoveringLemmas.{same_tests}
 use Rattle.art_routes.proofs.CoverLemmas.{in-is, is-in}
 use Rattle.art_routes.proofs.OrderLemmas.{length_small, width_small, place, place_down, down_place, place_up, up_place}
-use Rattle.art_routes.proofs.RouteLemmas.{AreNetworks, picked-read}
 
 -- numbers from q * 2 ^ k on, fewer than 2 ^ k of them, are q without their last k bits
 whole_part : (n x k : ℕ) → n % 2 ^ k ≡ 0 → n ≤ x → x ≤ n + (2 ^ k - 1) → x / 2 ^ k ≡ n / 2 ^ k
@@ -89,15 +85,3 @@ module _ (network other : Block) (is : IsNetwork network) (other_is : IsNetwork 
 
   pub in_range : (is_le (network_order other (last_network network)) && is_ge (network_order other network)) ≡ covers network other
   in_range = same_tests (is_le (network_order other (last_network network)) && is_ge (network_order other network)) (covers network other) to_cover from_cover
-
--- the entries of the range are the routes that are covered
-pub covered-at : {V : Type 0} (entries routes : List (Block × V)) → entries ≡ routes → AreNetworks entries → (network last : Block) → IsNetwork network → IsNetwork last → last ≡ last_network network → (x y : Block) → x ≡ network → y ≡ last
-    → filter (λ entry. is_le (text_order (key_text entry.0) (key_text y)) && is_ge (text_order (key_text entry.0) (key_text x))) entries ≡ covered network routes
-covered-at entries routes view_is all network last is last_is ends x y x_is y_is =
-    picked-read (λ z. is_le (text_order (key_text z) (key_text y)) && is_ge (text_order (key_text z) (key_text x))) (covers network)
-    (λ z z_is.
-    (λ i. is_le (text_order (key_text z) (key_text (y_is i))) && is_ge (text_order (key_text z) (key_text (x_is i))))
-    ∙ (λ i. is_le (key_order z last z_is last_is i) && is_ge (key_order z network z_is is i))
-    ∙ ap (λ l. is_le (network_order z l) && is_ge (network_order z network)) ends
-    ∙ in_range network z is z_is) entries all
-    ∙ ap (covered network) view_is

@@ -3,8 +3,8 @@ use Rattle.std.proofs.Common.{◌≡◌, ◌≢◌, ◌∙◌, Bool, true, false
 use Rattle.std.specs.Option.{is_some}
 use Rattle.std.specs.Ordering.{is_eq}
 use Rattle.art_tree.specs.Entries.{put_entry}
-use Rattle.leaf_map.specs.EnteredValues.{set_value}
-use Rattle.leaf_map.specs.Entries.{entries_with_value, entry_with}
+use Rattle.art_routes.specs.TreeEntries.{set_value}
+use Rattle.art_routes.specs.TreeEntries.{entries_with_value, entry_with}
 use Rattle.art_routes.specs.Keys.{key_text}
 use Rattle.art_routes.specs.Networks.{Block, IsNetwork, network_order}
 use Rattle.art_routes.specs.Tables.{AreInOrder, put_route, routes_with_value, value_of}

@@ -25,4 +25,16 @@ pub mod PutAgainLemmas
 pub mod ThroughLemmas
 pub mod EndLemmas
 pub mod EnteredLemmas
-pub mod UpToLemmas
+mod LeafNames
+mod CalledLemmas
+mod EntryLemmas
+mod HeldLemmas
+mod LentLemmas
+mod LinkLemmas
+mod ListLemmas
+mod RangeLemmas
+mod RunLemmas
+mod ShrinkLemmas
+mod SideLemmas
+mod SplitLemmas
+mod WalkLemmas

@@ -1,4 +1,4 @@
--- The routes of a map's entries: calls on the keys are calls on the networks.
+-- The routes of a tree's entries: calls on the keys are calls on the networks.
 use Rattle.std.proofs.Common.{◌≡◌, ◌∙◌, ℕ, zero, suc, Bool, true, false, cond, not, List, [], ◌∷◌, filter, All, AllPairs, Some, refl, sym, ap, subst, arith, nat_eq}
 use Rattle.std.specs.Cmp.Lexicographic.{pointwise, texts_ties}
 use Rattle.std.specs.Option.{option_map}
@@ -9,7 +9,7 @@ use Rattle.std.proofs.lemmas.List.Elements.{All-head, All-tail, All-nil, All-con
 use Rattle.art_bytes.specs.Text.{text_order}
 use Rattle.art_tree.specs.Entries.{put_entry, without_text}
 use Rattle.art_tree.specs.Refusals.{texts_of}
-use Rattle.leaf_map.specs.Entries.{entry_with, entries_with_value}
+use Rattle.art_routes.specs.TreeEntries.{entry_with, entries_with_value}
 use Rattle.art_routes.specs.KeyLaws.{key_order}
 use Rattle.art_routes.specs.Keys.{key_text}
 use Rattle.art_routes.specs.Networks.{Block, IsNetwork, network_order}
@@ -104,12 +104,6 @@ module _ {V : Type 0} where
       picked-read (λ y. not (pointwise nat_eq (key_text y) (key_text x))) (λ n. not (is_eq (network_order n x)))
       (λ y y_is. ap not (same-read y x y_is is)) entries all
 
-  -- the entries on a side of a key are the routes on this side of the network
-  pub side-read : (side : Ordering → Bool) (entries : List (Block × V)) (x : Block) → AreNetworks entries → IsNetwork x → filter (λ entry. side (text_order (key_text entry.0) (key_text x))) entries ≡ filter (λ route. side (network_order route.0 x)) entries
-  side-read side entries x all is =
-      picked-read (λ y. side (text_order (key_text y) (key_text x))) (λ n. side (network_order n x))
-      (λ y y_is. ap side (key_order y x y_is is)) entries all
-
   -- a key below others is that of a network before theirs
   below-read : (x : Block) → IsNetwork x → (entries : List (Block × V)) → AreNetworks entries → All (λ y. text_order (key_text x) y ≡ Less) (texts_of key_text entries) → All (λ route. network_order x route.0 ≡ Less) entries
   below-read x is [] all under = All-nil (λ route. network_order x route.0 ≡ Less)
@@ -142,7 +136,3 @@ module _ {V : Type 0} where
 
     pub without-at : without_text key_text entries (key_text x) ≡ without_route routes network
     without-at = without-read entries x all x-is ∙ (λ i. without_route (view_is i) (written i))
-
-    -- the entries on a side of the key are the routes on this side of the network
-    pub side-at : (side : Ordering → Bool) → filter (λ entry. side (text_order (key_text entry.0) (key_text x))) entries ≡ filter (λ route. side (network_order route.0 network)) routes
-    side-at side = side-read side entries x all x-is ∙ (λ i. filter (λ route. side (network_order route.0 (written i))) (view_is i))

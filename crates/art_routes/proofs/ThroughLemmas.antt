@@ -2,7 +2,7 @@
 use Rattle.std.proofs.Common.{inl, inr, Bool, List, [], ◌∷◌, subst, sym}
 use Rattle.std.specs.List.{FoldsTo}
 use Rattle.std.specs.Map.Calls.{CallableOnEachPair, CalledAtPair, RetainsPairs, SomeCallAtPair, TakesPair}
-use Rattle.leaf_map.specs.Retaining.{StopsRetaining}
+use Rattle.art_routes.specs.Retaining.{StopsRetaining}
 use denote.Param.Members.{Called, Mut}
 use denote.Ref.{Bor, MutBor}
 

@@ -91,8 +91,3 @@ module _ {V : Type 0} {P : ℕ} (arena : NodeArena Block V P) (root : OpaqueNode
             let fit = there.0.fits in
             found.shortest other.0 there.0 there.1 (over-is other.0 address address.width (record { in_it = in_it; shorter = omega (arith, fit, in_it.widths) }));
       }
-
--- the routes of a table are to networks
-pub networks-listed : {V : Type 0} {P : ℕ} (arena : NodeArena Block V P) → ((entry : Block × V) → Contains (entries_of key_text arena) entry ↔ IsEntry key_text arena entry) → HasKeys key_text IsNetwork arena
-    → All (λ route. IsNetwork route.0) (entries_of key_text arena)
-networks-listed arena members keys k d inside = keys (get_or (entries_of key_text arena) k d) ((members (get_or (entries_of key_text arena) k d)).0 (Contains-get_or (entries_of key_text arena) k d inside))

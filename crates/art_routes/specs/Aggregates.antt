@@ -1,6 +1,6 @@
 -- Tables of fewer routes by which each address has the value that it has by another.
 use Rattle.std.specs.Prelude.{◌≡◌, ◌⊎◌, ◌<◌, suc, Bool, true, false, List, Contains, None, map}
-use Rattle.leaf_map.specs.Shrinking.{NeedsNode}
+use Rattle.art_routes.specs.Shrinking.{NeedsNode}
 use Rattle.art_routes.specs.declared.address.Address.{Address}
 use Rattle.art_routes.specs.Keys.{key_text}
 use Rattle.art_routes.specs.Networks.{Block, IsNetwork, covers}

@@ -2,7 +2,8 @@
 use denote.Param.{number}
 use Rattle.std.specs.Prelude.{◌≡◌, List, Option, OnSome}
 use Rattle.std.specs.Borrow.{Fml, LendsSo, MutBor, RattleType}
-use Rattle.leaf_map.specs.MapLending.{map_row}
+use Rattle.art_tree.specs.Entries.{entries_of}
+use Rattle.art_tree.specs.TreeLending.{tree_row}
 use Rattle.art_routes.specs.Keys.{key_text}
 use Rattle.art_routes.specs.Networks.{Block, IsNetwork}
 use Rattle.art_routes.specs.Tables.{routes_with_value}
@@ -12,7 +13,7 @@ use Rattle.art_routes.specs.contracts.table.TableOver.{the_row}
 -- the type of a table of these values, as the logic names it
 abbrev pub table_row : RattleType → RattleType
 table_row V =
-    the_row (map_row (key.the_row) V (number 20) key_text IsNetwork) V (record { entries = λ entries. entries })
+    the_row (tree_row (key.the_row) V (number 20) key_text IsNetwork) V (record { routes = λ tree. entries_of key_text tree.arena })
 
 -- a table ends with the value that was left behind the reference in the route to this network, or unchanged
 abbrev pub LendsRoute : (V : RattleType) → MutBor (List (Block × V.Denot)) → Block → Option (MutBor V.Denot) → Fml

@@ -19,3 +19,10 @@ pub mod FreeNetworks
 pub mod FreeWalks
 pub mod Aggregates
 pub mod AggregateSteps
+pub mod LeafEntries
+pub mod LeafRuns
+pub mod LeafWalks
+pub mod NearestLeaves
+pub mod Retaining
+pub mod Shrinking
+pub mod TreeEntries

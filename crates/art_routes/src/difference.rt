@@ -6,13 +6,10 @@ ghost use Rattle.art_routes.specs.Differences.{differences};
 ghost use Rattle.art_routes.specs.Networks.{Block, network_order};
 ghost use Rattle.art_routes.specs.Tables.{route_now, value_of};
 
-use crate::holds_routes::HoldsRoutes;
+use crate::leaves::{RouteArena, RouteLeaf};
 use crate::network::Network;
-use crate::route_key::RouteKey;
-use crate::routes::{Routes, RoutesOver};
+use crate::routes::{HasRuns, Routes, RoutesOver};
 use crate::table::RouteTable;
-use crate::way::PREFIX_LEN;
-use leaf_map::Iter;
 use std::cmp::Ordering;
 use std::iter::FusedIterator;
 use std::marker::Model;
@@ -30,12 +27,12 @@ pub enum Change<V> {
 
 /// Routes that are left, of which the next is known.
 #[derive(Drop)]
-pub struct PeekedRoutes<'a, I: HoldsRoutes<V>, V> {
+pub struct PeekedRoutes<'a, A: HasRuns<L, V>, L, V> {
     head: Option<(Network, &'a V)>,
-    rest: RoutesOver<I, V>,
+    rest: RoutesOver<A, L, V>,
 }
 
-impl<'a, I: HoldsRoutes<V>, V> Model for PeekedRoutes<'a, I, V> {
+impl<'a, A: HasRuns<L, V>, L, V> Model for PeekedRoutes<'a, A, L, V> {
     ghost use Rattle.std.specs.Prelude.{◌≡◌, List, [], IfNone};
     ghost use Rattle.std.specs.List.{cons_option};
     ghost use Rattle.std.specs.Option.{option_map};
@@ -49,7 +46,7 @@ impl<'a, I: HoldsRoutes<V>, V> Model for PeekedRoutes<'a, I, V> {
     ghost invariant = { λ p. IfNone p.head (p.rest ≡ []) };
 }
 
-type Peeked<'a, V> = PeekedRoutes<'a, Iter<'a, RouteKey, V, PREFIX_LEN>, V>;
+type Peeked<'a, V> = PeekedRoutes<'a, &'a RouteArena<V>, RouteLeaf<V>, V>;
 
 impl<'a, V> Peeked<'a, V> {
     // These routes.
@@ -80,12 +77,12 @@ impl<'a, V> Peeked<'a, V> {
 
 /// The changes that are left of those between two lists of routes. Callers name it [`Differences`].
 #[derive(Drop)]
-pub struct DifferencesOver<'a, I: HoldsRoutes<V>, V: PartialEq> {
-    old: PeekedRoutes<'a, I, V>,
-    new: PeekedRoutes<'a, I, V>,
+pub struct DifferencesOver<'a, A: HasRuns<L, V>, L, V: PartialEq> {
+    old: PeekedRoutes<'a, A, L, V>,
+    new: PeekedRoutes<'a, A, L, V>,
 }
 
-impl<'a, I: HoldsRoutes<V>, V: PartialEq> Model for DifferencesOver<'a, I, V> {
+impl<'a, A: HasRuns<L, V>, L, V: PartialEq> Model for DifferencesOver<'a, A, L, V> {
     ghost use Rattle.std.specs.Prelude.{List};
     ghost use Rattle.art_routes.specs.declared.difference.Change.{Change};
     ghost use Rattle.art_routes.specs.Differences.{differences};
@@ -97,7 +94,7 @@ impl<'a, I: HoldsRoutes<V>, V: PartialEq> Model for DifferencesOver<'a, I, V> {
 
 /// Changes that make one table another and are left, in the order of their networks. Contracts see their list. A change
 /// costs as many steps as routes of the two tables are passed on the way to it. Takes no memory.
-pub type Differences<'a, V> = DifferencesOver<'a, Iter<'a, RouteKey, V, PREFIX_LEN>, V>;
+pub type Differences<'a, V> = DifferencesOver<'a, &'a RouteArena<V>, RouteLeaf<V>, V>;
 
 // How two networks compare.
 fn order_of(network: &Network, other: &Network) -> Ordering

@@ -1,26 +1,19 @@
-//! What holds the entries of a table.
+//! What holds the routes of a table.
 
-use crate::route_key::RouteKey;
-use crate::way::PREFIX_LEN;
-use leaf_map::{ArtMap, IntoIter, Iter};
+use crate::leaves::RouteTree;
 
-/// What holds entries by the keys of networks: the map of a table, or its entries that are left.
+/// What holds routes as entries by the keys of their networks: the tree of a table.
 pub trait HoldsRoutes<V>: Sized {
     ghost use Rattle.std.specs.Prelude.{List};
     ghost use Rattle.art_routes.specs.Networks.{Block};
 
-    /// Its entries.
-    ghost entries: { Self → List (Block × V) };
+    /// Its routes.
+    ghost routes: { Self → List (Block × V) };
 }
 
-impl<V> HoldsRoutes<V> for ArtMap<RouteKey, V, PREFIX_LEN> {
-    ghost entries = { λ map. map };
-}
+impl<V> HoldsRoutes<V> for RouteTree<V> {
+    ghost use Rattle.art_tree.specs.Entries.{entries_of};
+    ghost use Rattle.art_routes.specs.Keys.{key_text};
 
-impl<'a, V> HoldsRoutes<V> for Iter<'a, RouteKey, V, PREFIX_LEN> {
-    ghost entries = { λ entries. entries };
-}
-
-impl<V> HoldsRoutes<V> for IntoIter<RouteKey, V, PREFIX_LEN> {
-    ghost entries = { λ entries. entries };
+    ghost routes = { λ tree. entries_of key_text tree.arena };
 }

@@ -12,6 +12,7 @@ mod ends;
 mod fault;
 mod free;
 mod holds_routes;
+mod leaves;
 mod network;
 mod reader;
 mod refused_route;
@@ -46,6 +47,6 @@ pub mod parts {
     pub use crate::reader::{ReaderOver, ReadsRoutes};
     pub use crate::route_entry::{OccupiedRouteOver, RouteEntryOver, VacantRouteOver};
     pub use crate::route_key::RouteKey;
-    pub use crate::routes::RoutesOver;
+    pub use crate::routes::{HasRuns, RoutesOver};
     pub use crate::table::TableOver;
 }

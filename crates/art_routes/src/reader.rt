@@ -8,10 +8,11 @@ ghost use Rattle.art_routes.specs.Readings.{most_visits};
 ghost use Rattle.art_routes.specs.Tables.{AreInOrder, IsLongest, IsLongestOver, IsParent, IsShortest, NoneAround, NoneContains, NoneCovers, route_now, value_of};
 
 use crate::address::{Address, number_of};
+use crate::leaves::RouteTree;
 use crate::network::{Network, parts};
 use crate::route_key::RouteKey;
 use crate::way::{PREFIX_LEN, RouteNode, longest_in, shortest_in};
-use art_tree::{ArenaReader, ArtTree, laws};
+use art_tree::ArenaReader;
 use std::marker::{Model, PhantomData};
 use std::net::IpAddr;
 
@@ -78,10 +79,7 @@ impl<A: ReadsRoutes<R, V>, R, V> Model for ReaderOver<A, R, V> {
 pub type RouteReader<'a, V> = ReaderOver<ArenaReader<'a, RouteKey, V, PREFIX_LEN>, RouteNode<V>, V>;
 
 /// A reader of the routes of a tree, with so many node visits.
-pub(crate) fn reader_of<V>(
-    tree: &ArtTree<RouteKey, V, PREFIX_LEN>,
-    budget: usize,
-) -> RouteReader<'_, V>
+pub(crate) fn reader_of<V>(tree: &RouteTree<V>, budget: usize) -> RouteReader<'_, V>
     ensures routes { result.routes ≡ entries_of key_text tree.now.arena }
     ensures budget { result.budget ≡ budget }
 {
@@ -113,7 +111,6 @@ impl<'a, V> RouteReader<'a, V> {
         ensures networks { All (λ route. IsNetwork route.0) self.now.routes }
     {
         let _nodes = &self.nodes;
-        laws::entries_are_one_list::<RouteKey, V, PREFIX_LEN>();
     }
 
     // The longest route that covers the first bits of an address, so many of them: one way down the tree.

@@ -2,13 +2,14 @@
 ghost use Rattle.std.specs.Prelude.{◌≡◌, ◌∷◌, [], IfNone, IfOk, IfSome, OnErr, OnOk, length, map};
 ghost use Rattle.std.specs.Map.Calls.{CallableOnEachPair, CalledAtPair, RetainsPairs, TakesPair};
 ghost use Rattle.art_nodes.specs.declared.pointers.OpaqueNodePtr.{OpaqueNodePtr as Pointer};
-ghost use Rattle.leaf_map.specs.Retaining.{StopsRetaining};
-ghost use Rattle.leaf_map.specs.Shrinking.{NeedsNode};
 ghost use Rattle.art_routes.specs.Keys.{key_text};
 ghost use Rattle.art_routes.specs.Networks.{Block};
 ghost use Rattle.art_routes.specs.Removing.{LosesFirstCovered, without_covered};
+ghost use Rattle.art_routes.specs.Retaining.{StopsRetaining};
+ghost use Rattle.art_routes.specs.Shrinking.{NeedsNode};
 ghost use Rattle.art_routes.specs.Tables.{covered as covered_routes};
 
+use crate::leaves::walk::retain_each;
 use crate::network::Network;
 use crate::route_key::{RouteKey, network_from};
 use crate::table::RouteTable;
@@ -95,8 +96,8 @@ impl<V: Drop> RouteTable<V> {
             requires { TakesPair F.FnMut f key.now value.old }
             ensures { CalledAtPair F.FnMut f.entry key.now value.old result value.new f.exit }
         { f(&network_from(key), value) };
-        let result = self.routes.retain(keep);
-        self.routes.entries_ascend();
+        let result = retain_each(&mut self.tree, keep);
+        let _arena = self.tree.arena();
         result
     }
 }

@@ -4,11 +4,11 @@ ghost use Rattle.std.specs.Borrow.{MutBor, sem};
 ghost use Rattle.std.specs.Fn.{FnOnceReturnsAtMut};
 ghost use Rattle.std.specs.Option.{UnwrapsOrElse, is_some, option_copied, option_copied_mut, unwrap_or};
 ghost use Rattle.art_nodes.specs.declared.pointers.OpaqueNodePtr.{OpaqueNodePtr as Pointer};
-ghost use Rattle.leaf_map.specs.Shrinking.{NeedsNode};
 ghost use Rattle.art_routes.specs.Keys.{key_text};
 ghost use Rattle.art_routes.specs.Lending.{LendsRoute};
 ghost use Rattle.art_routes.specs.Networks.{Block};
 ghost use Rattle.art_routes.specs.RouteEntries.{LendsPutRoute, entry_network, entry_table, is_occupied};
+ghost use Rattle.art_routes.specs.Shrinking.{NeedsNode};
 ghost use Rattle.art_routes.specs.Tables.{put_route, routes_with_value, value_of, without_route};
 
 use crate::network::Network;
@@ -93,8 +93,8 @@ impl<V> RouteTable<V> {
             (λ refused. (refused.network ≡ network) × F.post make refused.value) }
         ensures no_route { OnErr result (value_of self.old network ≡ None) }
     {
-        self.routes_ascend();
-        match self.routes.get_or_insert_with(key_of(&network), make) {
+        let _arena = self.tree.arena();
+        match self.tree.get_or_insert_with(key_of(&network), make) {
             Ok(value) => Ok(value),
             Err(fault) => Err(RefusedRoute {
                 network,

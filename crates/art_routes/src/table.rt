@@ -1,12 +1,13 @@
 //! Tables of routes.
-ghost use Rattle.std.specs.Prelude.{◌≡◌, ◌≢◌, ◌↔◌, ◌⊎◌, ◌<◌, ◌≤◌, ◌^◌, [], ◌∷◌, All, IfErr, IfNone, IfOk, IfSome, IsTrue, MatchOption, None, OnErr, OnOk, length, map, true, false};
+ghost use Rattle.std.specs.Prelude.{◌≡◌, ◌≢◌, ◌↔◌, ◌⊎◌, ◌<◌, ◌≤◌, ◌^◌, [], ◌∷◌, All, IfErr, IfNone, IfOk, IfSome, IsTrue, MatchOption, None, OnErr, OnOk, filter, length, map, true, false};
 ghost use Rattle.std.specs.Borrow.{sem};
 ghost use Rattle.std.specs.Option.{option_copied, option_copied_mut, option_map};
 ghost use Rattle.art_nodes.specs.declared.pointers.OpaqueNodePtr.{OpaqueNodePtr as Pointer};
-ghost use Rattle.leaf_map.specs.Shrinking.{NeedsNode};
 ghost use Rattle.art_routes.specs.Keys.{key_text};
 ghost use Rattle.art_routes.specs.Lending.{LendsRoute};
+ghost use Rattle.art_routes.specs.NearestLeaves.{is_between};
 ghost use Rattle.art_routes.specs.Networks.{Block, IsNetwork, address_of, covers};
+ghost use Rattle.art_routes.specs.Shrinking.{NeedsNode};
 ghost use Rattle.art_routes.specs.Tables.{AreInOrder, at_or_after, behind, children as children_of, covered as covered_routes, covering as covering_routes, IsFirstToNetwork, IsLongest, IsLongestOver, IsParent, IsShortest, NoneAround, NoneContains, NoneCovers, put_route, put_routes, route_now, value_of, without_route};
 ghost use Rattle.art_routes.specs.UpTo.{ahead, at_or_before};
 
@@ -14,40 +15,44 @@ use crate::address::{Address, number_of};
 use crate::children::{Children, ChildrenOver};
 use crate::covering::{Covering, CoveringOver};
 use crate::holds_routes::HoldsRoutes;
+use crate::leaves::RouteTree;
+use crate::leaves::range::ends_between;
+use crate::leaves::walk::removals_need_nodes;
 use crate::network::{Network, last_of, parts};
 use crate::reader::{RouteReader, reader_of, visits_over};
 use crate::refused_route::RefusedRoute;
 use crate::route_key::{RouteKey, key_of};
 use crate::routes::{IntoRoutes, Routes, RoutesOver};
 use crate::way::PREFIX_LEN;
-use leaf_map::ArtMap;
+use art_bytes::AsBytes;
+use art_tree::laws::the_list_of_entries_changes_with_them;
+use art_tree::{ArtTree, Side};
 use std::alloc::{AllocError, Global};
 use std::marker::{Model, PhantomData};
 use std::net::IpAddr;
-use std::ops::Bound;
 
-/// The routes that a map `M` holds. Callers name it [`RouteTable`].
+/// The routes that a tree `T` holds. Callers name it [`RouteTable`].
 #[derive(Drop)]
-pub struct TableOver<M: HoldsRoutes<V>, V> {
-    pub(crate) routes: M,
+pub struct TableOver<T: HoldsRoutes<V>, V> {
+    pub(crate) tree: T,
     pub(crate) value: PhantomData<V>,
 }
 
-impl<M: HoldsRoutes<V>, V> Model for TableOver<M, V> {
+impl<T: HoldsRoutes<V>, V> Model for TableOver<T, V> {
     ghost use Rattle.std.specs.Prelude.{List, All};
     ghost use Rattle.art_routes.specs.Networks.{Block, IsNetwork};
 
     ghost Value = { List (Block × V) };
 
-    ghost view = { λ table. M.entries table.routes };
+    ghost view = { λ table. T.routes table.tree };
 
-    ghost invariant = { λ table. All (λ entry. IsNetwork entry.0) (M.entries table.routes) };
+    ghost invariant = { λ table. All (λ route. IsNetwork route.0) (T.routes table.tree) };
 }
 
 /// The routes: values by networks, in the order of the networks, one for each. No call has a condition.
-pub type RouteTable<V> = TableOver<ArtMap<RouteKey, V, PREFIX_LEN>, V>;
+pub type RouteTable<V> = TableOver<RouteTree<V>, V>;
 
-// The value of an entry that was replaced.
+// The value of an entry that was replaced or removed.
 fn value_alone<V>(entry: Option<(RouteKey, V)>) -> Option<V>
     ensures { result ≡ option_map (λ entry. entry.1) entry }
 {
@@ -61,7 +66,7 @@ impl<V> RouteTable<V> {
         ensures { result ≡ [] }
     {
         TableOver {
-            routes: ArtMap::new(alloc),
+            tree: ArtTree::new(alloc),
             value: PhantomData,
         }
     }
@@ -70,7 +75,7 @@ impl<V> RouteTable<V> {
     pub fn len(&self) -> usize
         ensures { result ≡ length self.now }
     {
-        self.routes.len()
+        self.tree.len()
     }
 
     /// Whether there is no route. Takes constant time and no memory.
@@ -85,13 +90,14 @@ impl<V> RouteTable<V> {
         ensures order { AreInOrder self.now }
         ensures networks { All (λ route. IsNetwork route.0) self.now }
     {
-        self.routes.entries_ascend();
+        let _tree = &self.tree;
     }
 
     /// Adds a route. Where there is one to the same network, its value is replaced and returned.
     ///
     /// Only an allocation failure refuses a route, and only one to a network that has none: it is
-    /// returned, and the routes are unchanged. Costs as much as [`ArtMap::insert`] of a key of 6 bytes for IPv4 and of 20 at most for IPv6.
+    /// returned, and the routes are unchanged. Costs as much as [`ArtTree::insert`] of a key of 6 bytes for IPv4 and of 20
+    /// at most for IPv6.
     pub fn insert(&mut self, network: Network, value: V) -> Result<Option<V>, RefusedRoute<V>>
         ensures replaced { IfOk result (λ before. before ≡ value_of self.old network) }
         ensures routes { OnOk result (self.new ≡ put_route self.old network value) }
@@ -100,7 +106,7 @@ impl<V> RouteTable<V> {
         ensures no_route { OnErr result (value_of self.old network ≡ None) }
         ensures same_routes { OnErr result (self.new ≡ self.old) }
     {
-        let before = match self.routes.insert(key_of(&network), value) {
+        let before = match self.tree.insert(key_of(&network), value) {
             Ok(before) => before,
             Err(fault) => {
                 return Err(RefusedRoute {
@@ -113,11 +119,12 @@ impl<V> RouteTable<V> {
     }
 
     /// The value of the route to this very network, or None where there is none. Costs as much as
-    /// [`ArtMap::get`] of a key of 6 bytes for IPv4 and of 20 at most for IPv6. Takes no memory.
+    /// [`ArtTree::get`] of a key of 6 bytes for IPv4 and of 20 at most for IPv6. Takes no memory.
     pub fn get(&self, network: &Network) -> Option<&V>
         ensures { option_copied result ≡ value_of self.now network.now }
     {
-        self.routes.get(&key_of(network))
+        let key = key_of(network);
+        self.tree.get(key.as_bytes())
     }
 
     /// A mutable reference to the value of the route to this very network, or None where there is none.
@@ -136,7 +143,7 @@ impl<V> RouteTable<V> {
         ensures value { option_copied_mut result ≡ value_of self.old network.now }
     {
         let key = key_of(network);
-        match self.routes.get_mut(&key) {
+        match self.tree.get_mut(key.as_bytes()) {
             Some(value) => Some(value),
             None => None,
         }
@@ -154,34 +161,42 @@ impl<V> RouteTable<V> {
             (map (λ route. key_text route.0) self.old) (key_text network.now)) }
         ensures same_routes { OnErr result (self.new ≡ self.old) }
     {
-        self.routes.remove(&key_of(network))
+        removals_need_nodes(&self.tree);
+        let key = key_of(network);
+        let entry = self.tree.remove(key.as_bytes())?;
+        Ok(value_alone(entry))
     }
 
-    /// All routes, in order, and from the back in the opposite order. Costs as much as [`ArtMap::iter`].
-    /// Takes no memory.
-    pub fn iter(&self) -> Routes<'_, V>
-        ensures { result ≡ self.now }
+    // The routes whose keys come after the one side of some bytes, and before the other side of others.
+    fn between(&self, start_side: Side, start: &[u8], end_side: Side, end: &[u8]) -> Routes<'_, V>
+        ensures routes { result ≡ filter
+            (λ route. is_between start_side start.now end_side end.now (key_text route.0)) self.now }
+        ensures networks { All (λ route. IsNetwork route.0) self.now }
     {
+        let ends = ends_between(&self.tree, start_side, start, end_side, end);
         RoutesOver {
-            entries: self.routes.iter(),
+            arena: self.tree.arena(),
+            ends,
             value: PhantomData,
         }
     }
 
+    /// All routes, in order, and from the back in the opposite order. Visits the nodes on the way to the first route,
+    /// twice, and to the last one; then each route takes constant time. Takes no memory.
+    pub fn iter(&self) -> Routes<'_, V>
+        ensures { result ≡ self.now }
+    {
+        self.between(Side::Before, &[], Side::AfterBegun, &[])
+    }
+
     /// The routes to this network and to parts of it, in order, and from the back in the opposite order.
-    /// Costs as much as [`ArtMap::range`]: a descent to each end, and constant time for each route. Takes
-    /// no memory.
+    /// Costs a descent to each end, and constant time for each route. Takes no memory.
     pub fn covered(&self, network: &Network) -> Routes<'_, V>
         ensures { result ≡ covered_routes network.now self.now }
     {
         let first = key_of(network);
         let last = key_of(&last_of(network));
-        RoutesOver {
-            entries: self
-                .routes
-                .range(Bound::Included(&first), Bound::Included(&last)),
-            value: PhantomData,
-        }
+        self.between(Side::Before, first.as_bytes(), Side::After, last.as_bytes())
     }
 
     /// The routes to this network and to those after it, in order, and from the back in the opposite order.
@@ -196,10 +211,7 @@ impl<V> RouteTable<V> {
         ensures { result ≡ at_or_after network.now self.now }
     {
         let first = key_of(network);
-        RoutesOver {
-            entries: self.routes.range(Bound::Included(&first), Bound::Unbounded),
-            value: PhantomData,
-        }
+        self.between(Side::Before, first.as_bytes(), Side::AfterBegun, &[])
     }
 
     /// The routes to the networks after this one, as [`iter_from`](Self::iter_from).
@@ -207,10 +219,7 @@ impl<V> RouteTable<V> {
         ensures { result ≡ behind network.now self.now }
     {
         let first = key_of(network);
-        RoutesOver {
-            entries: self.routes.range(Bound::Excluded(&first), Bound::Unbounded),
-            value: PhantomData,
-        }
+        self.between(Side::After, first.as_bytes(), Side::AfterBegun, &[])
     }
 
     /// The routes to this network and to those before it, in order, and from the back in the opposite order: so the first
@@ -225,10 +234,7 @@ impl<V> RouteTable<V> {
         ensures { result ≡ at_or_before network.now self.now }
     {
         let last = key_of(network);
-        RoutesOver {
-            entries: self.routes.range(Bound::Unbounded, Bound::Included(&last)),
-            value: PhantomData,
-        }
+        self.between(Side::Before, &[], Side::After, last.as_bytes())
     }
 
     /// The routes to the networks before this one, as [`iter_to`](Self::iter_to).
@@ -236,10 +242,7 @@ impl<V> RouteTable<V> {
         ensures { result ≡ ahead network.now self.now }
     {
         let last = key_of(network);
-        RoutesOver {
-            entries: self.routes.range(Bound::Unbounded, Bound::Excluded(&last)),
-            value: PhantomData,
-        }
+        self.between(Side::Before, &[], Side::Before, last.as_bytes())
     }
 
     /// Reserves memory for `additional` more routes: as many inserts to new networks, and removals, take
@@ -248,7 +251,8 @@ impl<V> RouteTable<V> {
     pub fn reserve(&mut self, additional: usize) -> Result<(), AllocError>
         ensures same_routes { self.new ≡ self.old }
     {
-        self.routes.reserve(additional)
+        the_list_of_entries_changes_with_them::<RouteKey, V, PREFIX_LEN>();
+        self.tree.reserve_entries(additional)
     }
 
     /// The table, to be read with so many node visits at most. Takes no memory.
@@ -259,7 +263,7 @@ impl<V> RouteTable<V> {
         ensures routes { result.routes ≡ self.now }
         ensures budget { result.budget ≡ budget }
     {
-        reader_of(self.routes.tree(), budget)
+        reader_of(&self.tree, budget)
     }
 
     // The longest route that covers the first bits of an address, so many of them: one way down the tree.
@@ -439,7 +443,7 @@ impl<V: Drop> RouteTable<V> {
     pub fn clear(&mut self)
         ensures { self.new ≡ [] }
     {
-        self.routes.clear();
+        self.tree.clear();
     }
 
     /// Puts the routes into memory in their order, with room for just them. All memory is taken before a
@@ -448,7 +452,8 @@ impl<V: Drop> RouteTable<V> {
     pub fn compact(&mut self) -> Result<(), AllocError>
         ensures same_routes { self.new ≡ self.old }
     {
-        self.routes.compact()
+        the_list_of_entries_changes_with_them::<RouteKey, V, PREFIX_LEN>();
+        self.tree.compact()
     }
 }
 
@@ -470,8 +475,11 @@ impl<V: Drop> IntoIterator for RouteTable<V> {
     /// };
     /// ```
     fn into_iter(self) -> IntoRoutes<V> {
+        let ends = ends_between(&self.tree, Side::Before, &[], Side::AfterBegun, &[]);
+        let TableOver { tree, value: _ } = self;
         RoutesOver {
-            entries: self.routes.into_iter(),
+            arena: tree.into_arena(),
+            ends,
             value: PhantomData,
         }
     }

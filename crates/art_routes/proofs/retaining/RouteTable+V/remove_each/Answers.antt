@@ -1,8 +1,8 @@
 use Rattle.std.proofs.Common.{◌∙◌, List, ap, map, subst, sym}
 use Rattle.art_nodes.specs.declared.pointers.OpaqueNodePtr.{OpaqueNodePtr}
-use Rattle.leaf_map.specs.Shrinking.{NeedsNode}
 use Rattle.art_routes.specs.Keys.{key_text}
 use Rattle.art_routes.specs.Networks.{Block}
+use Rattle.art_routes.specs.Shrinking.{NeedsNode}
 use Rattle.art_routes.specs.Tables.{without_route}
 use Rattle.art_routes.proofs.RemovalLemmas.{all-gone, fewer-left, loses-first, on-err-always, one-gone}
 use Rattle.art_routes.proofs.retaining.RouteTable+V.remove_each.Goals as goal

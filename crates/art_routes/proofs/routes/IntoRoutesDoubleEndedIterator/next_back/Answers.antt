@@ -1,5 +1,8 @@
-use Rattle.art_routes.proofs.ResultLemmas.{last-rest-taken}
+use Rattle.art_routes.proofs.LeafNames.{[], ap, rules, run_entries, sym, ◌++◌, ◌∙◌, ◌∷◌, ◌≡◌}
 use Rattle.art_routes.proofs.routes.IntoRoutesDoubleEndedIterator.next_back.Goals as goal
 
-pub invariant_of-self : goal.invariant_of-self
-invariant_of-self g c = last-rest-taken c.next_back.result c.self.inside.entries c.next_back.new.self c.next_back.ensures.steps c.self.invariant
+pub returns-clause-steps : goal.returns-clause-steps
+returns-clause-steps g c =
+    let rest = run_entries c.take_out-key.new.arena c.take_out-key.result.1 in
+    let taken : c.args.self.now ≡ rest ++ c.take_out-key.result.0 ∷ [] = search rules in
+    taken ∙ ap (λ network. rest ++ (network, c.take_out-key.result.0.1) ∷ []) (sym c.network_from.ensures.network)

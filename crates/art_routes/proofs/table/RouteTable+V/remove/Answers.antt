@@ -1,30 +1,52 @@
-use Rattle.std.proofs.Common.{◌∙◌, map, sym, subst}
+use Rattle.std.proofs.Common.{◌∙◌, ap, map, subst, sym}
+use Rattle.std.specs.Option.{option_map}
+use Rattle.art_bytes.proofs.Cases.{on_err_always}
 use Rattle.art_nodes.specs.declared.pointers.OpaqueNodePtr.{OpaqueNodePtr}
-use Rattle.leaf_map.specs.Shrinking.{NeedsNode}
+use Rattle.art_tree.proofs.EntryLaws.{list-same}
 use Rattle.art_routes.specs.Keys.{key_text}
 use Rattle.art_routes.specs.Networks.{Block}
-use Rattle.art_routes.proofs.ResultLemmas.{by_result, if-ok, none_from, on-ok, on-err}
-use Rattle.art_routes.proofs.RouteLemmas.{AreNetworks, kept-networks, value-at, without-at}
+use Rattle.art_routes.specs.Shrinking.{NeedsNode}
+use Rattle.art_routes.proofs.HeldLemmas.{kept-held, value-held, without-held}
+use Rattle.art_routes.proofs.ListLemmas.{leaf-found}
+use Rattle.art_routes.proofs.ResultLemmas.{none_from}
+use Rattle.art_routes.proofs.RouteLemmas.{AreNetworks}
 use Rattle.art_routes.proofs.table.RouteTable+V.remove.Goals as goal
 
-pub invariant_of-self : goal.invariant_of-self
-invariant_of-self g c =
-    by_result c.remove.result _ _ (AreNetworks c.remove.new.self) (λ is. subst (λ es. AreNetworks es) (sym is) (kept-networks _ c.self.inside.routes c.self.invariant)) (λ same. subst (λ es. AreNetworks es) (sym same) c.self.invariant) c.remove.ensures.entries c.remove.ensures.same_entries
+pub invariant_of-self-2 : goal.invariant_of-self-2
+invariant_of-self-2 g c =
+    let written = c.as_bytes.ensures.text ∙ ap key_text c.key_of-key.ensures.key in
+    kept-held c.self.inside.tree.arena c.args.self.now c.self.view_is c.self.invariant c.args.network.now c.key_of-key.ensures.network c.as_bytes.result.now written c.remove.new.self.arena c.in_ok-entry.ensures.others c.in_ok-entry.ensures.gone
 
 pub returns-clause-removed : goal.returns-clause-removed
 returns-clause-removed g c =
-    if-ok c.remove.result _ _ (λ value is. is ∙ value-at c.self.inside.routes c.args.self.now c.self.view_is c.self.invariant c.key_of.result c.args.network.now c.key_of.ensures.network c.key_of.ensures.key) c.remove.ensures.removed
+    let written = c.as_bytes.ensures.text ∙ ap key_text c.key_of-key.ensures.key in
+    c.value_alone.ensures ∙ ap (option_map (λ entry. entry.1)) c.in_ok-entry.ensures.removed
+    ∙ value-held c.self.inside.tree.arena c.args.self.now c.self.view_is c.self.invariant c.args.network.now c.key_of-key.ensures.network c.as_bytes.result.now written
 
 pub returns-clause-routes : goal.returns-clause-routes
 returns-clause-routes g c =
-    on-ok c.remove.result _ _ (λ is. is ∙ without-at c.self.inside.routes c.args.self.now c.self.view_is c.self.invariant c.key_of.result c.args.network.now c.key_of.ensures.network c.key_of.ensures.key) c.remove.ensures.entries
+    let written = c.as_bytes.ensures.text ∙ ap key_text c.key_of-key.ensures.key in
+    without-held c.self.inside.tree.arena c.args.self.now c.self.view_is c.self.invariant c.args.network.now c.key_of-key.ensures.network c.as_bytes.result.now written c.remove.new.self.arena c.in_ok-entry.ensures.others c.in_ok-entry.ensures.gone
 
-pub returns-clause-refused : goal.returns-clause-refused
-returns-clause-refused g c =
-    on-err c.remove.result _ _ (λ some none. some (none_from (λ entry. entry.1) _ (value-at c.self.inside.routes c.args.self.now c.self.view_is c.self.invariant c.key_of.result c.args.network.now c.key_of.ensures.network c.key_of.ensures.key ∙ none))) c.remove.ensures.refused
+pub invariant_of-self : goal.invariant_of-self
+invariant_of-self g c = subst (λ es. AreNetworks es) (sym (list-same key_text c.self.inside.tree.arena c.remove.new.self.arena c.in_err-entry.ensures.same_entries)) c.self.invariant
 
-pub returns-clause-needs_node : goal.returns-clause-needs_node
-returns-clause-needs_node g c =
+pub returns-in_err-entry-clause-refused : goal.returns-in_err-entry-clause-refused
+returns-in_err-entry-clause-refused g c =
+    let arena = c.self.inside.tree.arena in
+    let bytes = c.as_bytes.result.now in
+    let written = c.as_bytes.ensures.text ∙ ap key_text c.key_of-key.ensures.key in
+    let needs = c.in_err-entry.ensures.refused in
+    on_err_always c.from_residual.result _
+    (λ none. leaf-found key_text arena needs.pointer needs.leaf bytes needs.is_held needs.has_text (none_from (λ entry. entry.1) _ (value-held arena c.args.self.now c.self.view_is c.self.invariant c.args.network.now c.key_of-key.ensures.network bytes written ∙ none)))
+
+pub returns-in_err-entry-clause-needs_node : goal.returns-in_err-entry-clause-needs_node
+returns-in_err-entry-clause-needs_node g c =
     let Needs = NeedsNode (OpaqueNodePtr Block g.row.V.Denot 20) in
-    on-err c.remove.result (Needs (map (λ entry. key_text entry.0) c.self.inside.routes) (key_text c.key_of.result)) (Needs (map (λ route. key_text route.0) c.args.self.now) (key_text c.args.network.now))
-    (λ needs. subst (λ all. Needs (map (λ route. key_text route.0) all) (key_text c.args.network.now)) c.self.view_is (subst (λ x. Needs (map (λ entry. key_text entry.0) c.self.inside.routes) (key_text x)) c.key_of.ensures.key needs)) c.remove.ensures.needs_node
+    let written = c.as_bytes.ensures.text ∙ ap key_text c.key_of-key.ensures.key in
+    let needs = c.removals_need_nodes.ensures c.as_bytes.result.now c.in_err-entry.ensures.refused in
+    on_err_always c.from_residual.result _ (subst (λ routes. Needs (map (λ route. key_text route.0) routes) (key_text c.args.network.now)) c.self.view_is (subst (Needs _) written needs))
+
+pub returns-in_err-entry-clause-same_routes : goal.returns-in_err-entry-clause-same_routes
+returns-in_err-entry-clause-same_routes g c =
+    on_err_always c.from_residual.result _ (list-same key_text c.self.inside.tree.arena c.remove.new.self.arena c.in_err-entry.ensures.same_entries ∙ c.self.view_is)
