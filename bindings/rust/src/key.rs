@@ -1,5 +1,5 @@
 //! The two kinds of keys, and the calls for each.
-use crate::raw::{self, RawMap};
+use crate::raw::{self, RawMap, Word};
 use crate::refusal::is_some;
 use std::collections::VecDeque;
 use std::fmt;
@@ -56,7 +56,7 @@ pub enum Toward {
 pub struct Many<W> {
     keys: Vec<W>,
     ends: Vec<usize>,
-    values: Vec<u64>,
+    values: Vec<Word>,
 }
 
 impl<W> Many<W> {
@@ -66,6 +66,15 @@ impl<W> Many<W> {
 
     pub(crate) fn is_empty(&self) -> bool {
         self.values.is_empty()
+    }
+}
+
+impl Many<u64> {
+    /// Appends an entry.
+    #[inline]
+    pub(crate) fn push_pair(&mut self, key: u64, value: Word) {
+        self.keys.push(key);
+        self.values.push(value);
     }
 }
 
@@ -146,7 +155,7 @@ impl Calls for Vec<u8> {
     fn push(many: &mut Many<u8>, key: &[u8], value: u64) {
         many.keys.extend_from_slice(key);
         many.ends.push(many.keys.len());
-        many.values.push(value);
+        many.values.push(Word::new(value));
     }
 
     unsafe fn make(map: *mut RawMap) -> u32 {
@@ -185,14 +194,15 @@ impl Calls for Vec<u8> {
         let (keys, ends, values, mut done) = (&many.keys, &many.ends, &many.values, 0);
         #[rustfmt::skip]
         let status = raw::art_bytes_insert_many(
-            map, keys.as_ptr(), keys.len(), ends.as_ptr(), ends.len(), values.as_ptr(), values.len(), &mut done,
+            map, keys.as_ptr(), keys.len(), ends.as_ptr(), ends.len(), values.as_ptr().cast(), values.len(), &mut done,
         );
         status
     }
 
     unsafe fn load(map: *mut RawMap, many: &Many<u8>) -> u32 {
         let (keys, ends, values) = (&many.keys, &many.ends, &many.values);
-        raw::art_bytes_load(map, keys.as_ptr(), keys.len(), ends.as_ptr(), ends.len(), values.as_ptr(), values.len())
+        let (values, count) = (values.as_ptr().cast(), values.len());
+        raw::art_bytes_load(map, keys.as_ptr(), keys.len(), ends.as_ptr(), ends.len(), values, count)
     }
 
     unsafe fn find(map: *mut RawMap, which: Find) -> Option<(Vec<u8>, u64)> {
@@ -263,8 +273,7 @@ impl Calls for u64 {
     }
 
     fn push(many: &mut Many<u64>, key: &u64, value: u64) {
-        many.keys.push(*key);
-        many.values.push(value);
+        many.push_pair(*key, Word::new(value));
     }
 
     unsafe fn make(map: *mut RawMap) -> u32 {
@@ -284,7 +293,7 @@ impl Calls for u64 {
     }
 
     unsafe fn insert(map: *mut RawMap, key: &u64, value: u64, before: &mut u64) -> u32 {
-        raw::art_u64_insert(map, *key, value, before)
+        raw::art_u64_insert(map, *key, Word::new(value), before)
     }
 
     #[inline]
@@ -301,11 +310,12 @@ impl Calls for u64 {
 
     unsafe fn insert_many(map: *mut RawMap, many: &Many<u64>) -> u32 {
         let (keys, values, mut done) = (&many.keys, &many.values, 0);
-        raw::art_u64_insert_many(map, keys.as_ptr(), keys.len(), values.as_ptr(), values.len(), &mut done)
+        raw::art_u64_insert_many(map, keys.as_ptr(), keys.len(), values.as_ptr().cast(), values.len(), &mut done)
     }
 
     unsafe fn load(map: *mut RawMap, many: &Many<u64>) -> u32 {
-        raw::art_u64_load(map, many.keys.as_ptr(), many.keys.len(), many.values.as_ptr(), many.values.len())
+        let (keys, values) = (&many.keys, &many.values);
+        raw::art_u64_load(map, keys.as_ptr(), keys.len(), values.as_ptr().cast(), values.len())
     }
 
     unsafe fn find(map: *mut RawMap, which: Find) -> Option<(u64, u64)> {

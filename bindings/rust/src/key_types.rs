@@ -1,5 +1,6 @@
 //! The types that are keys.
 use crate::map_key::{encode_parts, sum, Encoding, KeyBytes, MapKey, TextKey};
+use crate::pairs::InPlace;
 use std::borrow::Cow;
 use std::cmp::Reverse;
 use std::net::{IpAddr, Ipv4Addr, Ipv6Addr};
@@ -12,6 +13,8 @@ macro_rules! unsigned {
     ($($number:ty),*) => {
         $(impl MapKey for $number {
             const WIDTH: Option<usize> = Some(size_of::<$number>());
+            // SAFETY: a number is the low bytes of itself as a wider one.
+            const IN_PLACE: InPlace<Self> = unsafe { InPlace::yes() };
 
             #[inline]
             fn encode<T>(&self, take: impl FnOnce(Encoding<'_>) -> T) -> T {
@@ -28,11 +31,12 @@ macro_rules! unsigned {
 
 unsigned!(u8, u16, u32, u64, usize);
 
-/// A key by the encoding of another one, which sorts as it does.
+/// A key by the encoding of another one, which sorts as it does, and whether it is the low bytes of its number.
 macro_rules! encoded_as {
-    ($([$($generics:tt)*] $key:ty as $known:ty, |$this:ident| $other:expr;)*) => {
+    ($([$($generics:tt)*] $key:ty as $known:ty $(= $in_place:expr)?, |$this:ident| $other:expr;)*) => {
         $(impl<$($generics)*> MapKey for $key {
             const WIDTH: Option<usize> = <$known>::WIDTH;
+            $(const IN_PLACE: InPlace<Self> = $in_place;)?
 
             #[inline]
             fn encode<T>(&self, take: impl FnOnce(Encoding<'_>) -> T) -> T {
@@ -57,8 +61,9 @@ encoded_as! {
     [] i64 as u64, |it| (*it as u64 ^ 1 << 63);
     [] isize as i64, |it| (*it as i64);
     [] i128 as u128, |it| (*it as u128 ^ 1 << 127);
-    [] bool as u8, |it| u8::from(*it);
-    [] char as u32, |it| u32::from(*it);
+    // SAFETY: these are one byte, and four, of the same value.
+    [] bool as u8 = unsafe { InPlace::yes() }, |it| u8::from(*it);
+    [] char as u32 = unsafe { InPlace::yes() }, |it| u32::from(*it);
     [] std::cmp::Ordering as i8, |it| (*it as i8);
     [] Ipv4Addr as u32, |it| it.to_bits();
     [] Ipv6Addr as u128, |it| it.to_bits();
@@ -75,12 +80,14 @@ encoded_as! {
 }
 
 macro_rules! non_zero {
-    ($($number:ty),*) => {
-        encoded_as! { $([] NonZero<$number> as $number, |it| it.get();)* }
+    ($in_place:expr; $($number:ty),*) => {
+        encoded_as! { $([] NonZero<$number> as $number = $in_place, |it| it.get();)* }
     };
 }
 
-non_zero!(u8, u16, u32, u64, u128, usize, i8, i16, i32, i64, i128, isize);
+// SAFETY: such a number has the bytes of one that may be zero.
+non_zero!(unsafe { InPlace::yes() }; u8, u16, u32, u64, usize);
+non_zero!(InPlace::NO; u128, i8, i16, i32, i64, i128, isize);
 
 impl MapKey for u128 {
     const WIDTH: Option<usize> = Some(16);

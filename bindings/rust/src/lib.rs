@@ -6,11 +6,13 @@
 #![warn(missing_docs)]
 
 mod bounds;
+mod byte_walk;
 mod chain;
 pub mod entry;
 mod index;
 mod key;
 mod key_types;
+mod lent;
 pub mod map;
 mod map_entry;
 mod map_iter;
@@ -18,6 +20,8 @@ mod map_key;
 mod map_shown;
 mod map_traits;
 mod network;
+mod number_walk;
+mod pairs;
 mod range;
 mod raw;
 mod refusal;

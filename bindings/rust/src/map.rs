@@ -1,7 +1,8 @@
 //! An ordered map, its entries and its iterators, by the names of `std::collections::btree_map`.
-use crate::index::{Index, Loader};
+use crate::index::{Index, Loader, Place};
 use crate::key::{Find, Toward};
-use crate::map_key::{MapKey, TextKey};
+use crate::map_key::{Encoding, MapKey, TextKey};
+use crate::pairs::{self, entry_of, word_of, Layout};
 use crate::refusal::{granted, Refusal};
 use crate::slots::Slots;
 use crate::walk::Walk;
@@ -31,8 +32,10 @@ pub use crate::map_iter::{
 /// assert_eq!(by_group_and_number.range((14, 0)..).next(), Some((&(14, 6), &"carbon")));
 /// ```
 ///
-/// Each key lies with its value in memory of this map, and the library has the key's [`Encoding`](crate::Encoding) with
-/// their place there. So a key takes memory twice, and iterators give references.
+/// Small entries lie in the library, which lends them: those whose keys have numbers as their [`Encoding`] and
+/// whose values have eight bytes at most and no `Drop`, where the keys are unsigned numbers, `bool` or `char`, or have eight bytes
+/// together with their values. Of others each key lies with its value in memory of this map, and the library has the key's
+/// encoding with their place there: these keys take memory twice.
 ///
 /// Only a key that is not there takes memory of the library. Where that is refused, or the key is too long, nothing changes:
 /// [`try_put`](Self::try_put) and `from_ascending` return the [`Refusal`], other calls panic; `extend` and
@@ -47,7 +50,8 @@ pub use crate::map_iter::{
 /// ```
 pub struct Map<K, V> {
     // INVARIANT: each entry's slot has its word in the index, and no other entry's. A word whose slot is empty is that of no entry:
-    // there are some after an `append` that was refused, and where the encoding of a key has changed.
+    // there are some where the encoding of a key has changed. Where the index has pairs, these are entries of `K` and `V`, in
+    // the layout that is there, and there are no slots.
     pub(crate) index: Index,
     pub(crate) slots: Slots<K, V>,
 }
@@ -55,8 +59,17 @@ pub struct Map<K, V> {
 /// What comes back where memory is refused: an entry, and why.
 type Refused<K, V> = (K, V, Refusal);
 
-/// The word of an entry that was put in, and the entry in whose place it is.
-type Put<K, V> = (u64, Option<(K, V)>);
+/// The encoding of an entry that was put in where that is in the library, else its word; and the entry in whose place it is.
+type Put<K, V> = (Spot, Option<(K, V)>);
+
+/// Where an entry is that was put in.
+#[derive(Clone, Copy)]
+pub(crate) enum Spot {
+    /// In the slot of this word.
+    Slot(u64),
+    /// In the library, by this number.
+    Number(u64),
+}
 
 impl<K, V> Map<K, V> {
     /// An empty map, which takes no memory.
@@ -66,7 +79,10 @@ impl<K, V> Map<K, V> {
 
     /// The number of entries. Takes constant time.
     pub fn len(&self) -> usize {
-        self.slots.len()
+        match self.index {
+            Index::Pairs(..) => self.index.len(),
+            _ => self.slots.len(),
+        }
     }
 
     /// Whether there is no entry.
@@ -82,38 +98,54 @@ impl<K, V> Map<K, V> {
         drop(slots);
     }
 
-    // The word of the first or of the last entry.
-    fn end_word(&self, toward: Toward) -> Option<u64> {
-        let word = self.index.fetch(toward, None, 1, |batch| batch.words.first().copied())?;
-        if self.slots.get(word).is_some() {
-            return Some(word);
+    /// An entry.
+    #[inline]
+    pub(crate) fn at(&self, place: Place) -> Option<(&K, &V)> {
+        match place {
+            Place::Slot(word) => self.slots.get(word),
+            // SAFETY: the index gave the place, and does not change for so long. Who has values of it has borrowed the map.
+            Place::Pair(pair) => Some(unsafe { pair.lent() }),
         }
-        let mut walk = Walk::all();
-        let mut words = iter::from_fn(|| match toward {
-            Toward::End => walk.next(&self.index),
-            Toward::Start => walk.next_back(&self.index),
+    }
+
+    /// The same, with a value that can be changed.
+    #[inline]
+    pub(crate) fn at_mut(&mut self, place: Place) -> Option<(&K, &mut V)> {
+        match place {
+            Place::Slot(word) => self.slots.get_mut(word).map(|(key, value)| (&*key, value)),
+            // SAFETY: as above, and this map is borrowed mutably.
+            Place::Pair(pair) => Some(unsafe { pair.lent_mut() }),
+        }
+    }
+
+    // The place of the first or of the last entry.
+    fn end_place(&self, toward: Toward) -> Option<Place> {
+        let mut walk = Walk::all(&self.index);
+        let mut places = iter::from_fn(|| match toward {
+            Toward::End => walk.next::<K, V>(&self.index, |_| ()),
+            Toward::Start => walk.next_back::<K, V>(&self.index, |_| ()),
         });
-        words.find(|word| self.slots.get(*word).is_some())
+        places.find(|place| self.at(*place).is_some())
     }
 
     /// The entry with the least key.
     pub fn first_key_value(&self) -> Option<(&K, &V)> {
-        self.slots.get(self.end_word(Toward::End)?)
+        self.at(self.end_place(Toward::End)?)
     }
 
     /// The entry with the greatest key.
     pub fn last_key_value(&self) -> Option<(&K, &V)> {
-        self.slots.get(self.end_word(Toward::Start)?)
+        self.at(self.end_place(Toward::Start)?)
     }
 
     /// The entry with the least key, to be changed or removed.
     pub fn first_entry(&mut self) -> Option<OccupiedEntry<'_, K, V>> {
-        self.end_word(Toward::End).map(|word| OccupiedEntry { map: self, word })
+        self.end_place(Toward::End).map(|place| OccupiedEntry { map: self, place })
     }
 
     /// The entry with the greatest key, to be changed or removed.
     pub fn last_entry(&mut self) -> Option<OccupiedEntry<'_, K, V>> {
-        self.end_word(Toward::Start).map(|word| OccupiedEntry { map: self, word })
+        self.end_place(Toward::Start).map(|place| OccupiedEntry { map: self, place })
     }
 
     /// Removes the entry with the least key.
@@ -127,6 +159,10 @@ impl<K, V> Map<K, V> {
     }
 
     fn pop(&mut self, which: Find) -> Option<(K, V)> {
+        if let Index::Pairs(..) = self.index {
+            // SAFETY: it was an entry of these types.
+            return self.index.pop_pair(which).map(|(layout, key, word)| unsafe { entry_of(layout, key, word) });
+        }
         loop {
             let entry = self.slots.release(self.index.pop(which)?);
             if entry.is_some() {
@@ -186,12 +222,26 @@ impl<K: MapKey, V> Map<K, V> {
     /// ```
     pub fn from_ascending(entries: impl IntoIterator<Item = (K, V)>) -> Result<Self, Refusal> {
         let mut keys = Loader::default();
-        let slots = entries.into_iter().inspect(|(key, _)| key.encode(|key| keys.push(key))).collect();
+        let Some(layout) = Self::LAYOUT else {
+            // (In the memory of the entries, where they are in a `Vec`.)
+            let slots = entries.into_iter().inspect(|(key, _)| key.encode(|key| keys.push(key))).collect();
+            return Ok(Map { index: keys.load()?, slots });
+        };
+        let mut slots = Slots::new();
+        for (key, value) in entries {
+            match number_or(&key, |key| keys.push(key)) {
+                Ok(number) => keys.push_pair(number, word_of(layout, key, value), layout),
+                Err(()) => slots.push(key, value),
+            }
+        }
         Ok(Map { index: keys.load()?, slots })
     }
 
+    /// How entries lie in the library, if they do, by keys that are numbers.
+    const LAYOUT: Option<Layout> = pairs::layout::<K, V>(K::IN_PLACE);
+
     #[inline]
-    pub(crate) fn word<Q: MapKey + ?Sized>(&self, key: &Q) -> Option<u64> {
+    pub(crate) fn place<Q: MapKey + ?Sized>(&self, key: &Q) -> Option<Place> {
         key.encode(|key| self.index.get(key))
     }
 
@@ -210,8 +260,8 @@ impl<K: MapKey, V> Map<K, V> {
     where
         K: Borrow<Q>,
     {
-        let word = self.word(key)?;
-        self.slots.get_mut(word).map(|(_, value)| value)
+        let place = self.place(key)?;
+        self.at_mut(place).map(|(_, value)| value)
     }
 
     /// The key, as the map has it, and its value.
@@ -220,7 +270,7 @@ impl<K: MapKey, V> Map<K, V> {
     where
         K: Borrow<Q>,
     {
-        self.slots.get(self.word(key)?)
+        self.at(self.place(key)?)
     }
 
     /// Whether there is an entry with this key.
@@ -241,29 +291,74 @@ impl<K: MapKey, V> Map<K, V> {
         self.put(key, value).map(|(_, before)| before)
     }
 
-    /// The same, and the word of the entry.
-    pub(crate) fn put(&mut self, key: K, value: V) -> Result<(u64, Option<V>), Refused<K, V>> {
-        let (word, before) = self.replace(key, value)?;
+    /// The same, and where the entry is.
+    #[inline]
+    pub(crate) fn put(&mut self, key: K, value: V) -> Result<(Spot, Option<V>), Refused<K, V>> {
+        let (spot, before) = self.replace(key, value)?;
         let before = before.map(|(mut key, value)| {
-            if let Some((put, _)) = self.slots.get_mut(word) {
-                mem::swap(put, &mut key);
+            match spot {
+                Spot::Slot(word) => {
+                    if let Some((put, _)) = self.slots.get_mut(word) {
+                        mem::swap(put, &mut key);
+                    }
+                }
+                Spot::Number(number) if Self::LAYOUT == Some(Layout::Together) => {
+                    if let Some(Place::Pair(pair)) = self.index.get(Encoding::Number(number)) {
+                        // SAFETY: the index gave the place, and this map is borrowed mutably.
+                        unsafe { pair.set_key::<K, V>(key) }
+                    }
+                }
+                Spot::Number(_) => (),
             }
             value
         });
-        Ok((word, before))
+        Ok((spot, before))
     }
 
-    /// Puts an entry in, in place of the one with the same key. Returns its word and that one.
+    /// Puts an entry in, in place of the one with the same key. Returns where it is, and that one.
     #[inline]
     pub(crate) fn replace(&mut self, key: K, value: V) -> Result<Put<K, V>, Refused<K, V>> {
         let Map { index, slots } = self;
+        if let Some(layout) = Self::LAYOUT {
+            if let Ok(number) = number_or(&key, |_| ()) {
+                return Self::replace_pair(index, number, layout, key, value);
+            }
+        }
         let put = slots.vacant().and_then(|word| Ok((word, key.encode(|key| index.insert(key, word))?)));
         let (word, before) = match put {
             Ok(put) => put,
             Err(refusal) => return Err((key, value, refusal)),
         };
         slots.add(key, value);
-        Ok((word, before.and_then(|before| slots.release(before))))
+        Ok((Spot::Slot(word), before.and_then(|before| slots.release(before))))
+    }
+
+    #[inline]
+    fn replace_pair(
+        index: &mut Index,
+        number: u64,
+        layout: Layout,
+        key: K,
+        value: V,
+    ) -> Result<Put<K, V>, Refused<K, V>> {
+        let word = word_of(layout, key, value);
+        match index.insert_pair(number, word, layout) {
+            // SAFETY: it was an entry of these types.
+            Ok(before) => Ok((Spot::Number(number), before.map(|word| unsafe { entry_of(layout, number, word) }))),
+            Err(refusal) => {
+                // SAFETY: as this one is.
+                let (key, value) = unsafe { entry_of(layout, number, word) };
+                Err((key, value, refusal))
+            }
+        }
+    }
+
+    /// The place of an entry that was just put in.
+    pub(crate) fn place_of(&self, spot: Spot) -> Option<Place> {
+        match spot {
+            Spot::Slot(word) => Some(Place::Slot(word)),
+            Spot::Number(number) => self.index.get(Encoding::Number(number)),
+        }
     }
 
     /// Removes a key, and returns its value.
@@ -280,11 +375,25 @@ impl<K: MapKey, V> Map<K, V> {
         K: Borrow<Q>,
     {
         let Map { index, slots } = self;
-        key.encode(|key| slots.release(index.remove(key)?))
+        key.encode(|key| match (&index, key) {
+            // SAFETY: it was an entry of these types.
+            (Index::Pairs(..), Encoding::Number(number)) => {
+                index.remove_pair(number).map(|(layout, word)| unsafe { entry_of(layout, number, word) })
+            }
+            _ => slots.release(index.remove(key)?),
+        })
     }
 
-    /// Removes the entry of a word.
-    pub(crate) fn remove_word(&mut self, word: u64) -> Option<(K, V)> {
+    /// Removes an entry.
+    pub(crate) fn remove_at(&mut self, place: Place) -> Option<(K, V)> {
+        let word = match place {
+            Place::Pair(pair) => {
+                // SAFETY: the index gave the place, and has not changed. It was an entry of these types.
+                let (layout, number) = (pair.layout, unsafe { pair.number() });
+                return self.index.remove_pair(number).map(|(_, word)| unsafe { entry_of(layout, number, word) });
+            }
+            Place::Slot(word) => word,
+        };
         let Map { index, slots } = self;
         let removed = slots.get(word)?.0.encode(|key| index.remove(key));
         let entry = slots.take(word);
@@ -305,8 +414,8 @@ impl<K: MapKey, V> Map<K, V> {
     /// assert_eq!(lines["tin"], [1, 3]);
     /// ```
     pub fn entry(&mut self, key: K) -> Entry<'_, K, V> {
-        match self.word(&key).filter(|word| self.slots.get(*word).is_some()) {
-            Some(word) => Entry::Occupied(OccupiedEntry { map: self, word }),
+        match self.place(&key).filter(|place| self.at(*place).is_some()) {
+            Some(place) => Entry::Occupied(OccupiedEntry { map: self, place }),
             None => Entry::Vacant(VacantEntry { map: self, key }),
         }
     }
@@ -317,13 +426,25 @@ impl<K: MapKey, V> Map<K, V> {
         if self.is_empty() {
             return mem::swap(self, other);
         }
-        let mut words = Walk::all();
-        while let Some(word) = words.next(&other.index) {
-            let Some((key, value)) = other.slots.take(word) else { continue };
-            if let Err((key, value, refusal)) = self.put(key, value) {
-                other.slots.put_back(word, key, value);
+        let (mut places, mut moved) = (Walk::all(&other.index), 0);
+        while let Some(place) = places.next::<K, V>(&other.index, |word| other.slots.warm(word)) {
+            let entry = match place {
+                Place::Slot(word) => other.slots.take(word),
+                // SAFETY: the index gave the place, and has not changed. It loses the entry, or keeps it where it was refused.
+                Place::Pair(pair) => Some(unsafe { pair.taken() }),
+            };
+            if let Some(Err((key, value, refusal))) = entry.map(|(key, value)| self.put(key, value)) {
+                if let Place::Slot(word) = place {
+                    other.slots.put_back(word, key, value);
+                }
+                for _ in 0..moved {
+                    if let Some(word) = other.index.drop_end(Find::PopFirst) {
+                        other.slots.release(word);
+                    }
+                }
                 granted(Err(refusal))
             }
+            moved += 1;
         }
         other.clear();
     }
@@ -334,14 +455,14 @@ impl<K: MapKey, V> Map<K, V> {
     where
         K: Borrow<Q>,
     {
-        let below = Walk::range::<Q>(&(Bound::Unbounded, Bound::Excluded(key)));
-        let from = Walk::range::<Q>(&(Bound::Included(key), Bound::Unbounded));
+        let below = Walk::range::<Q>(&self.index, &(Bound::Unbounded, Bound::Excluded(key)));
+        let from = Walk::range::<Q>(&self.index, &(Bound::Included(key), Bound::Unbounded));
         let (mut count_below, mut count_from) = (below.clone(), from.clone());
         loop {
-            if count_from.next(&self.index).is_none() {
+            if count_from.next::<K, V>(&self.index, |_| ()).is_none() {
                 return self.moved_out(from, Find::PopLast);
             }
-            if count_below.next(&self.index).is_none() {
+            if count_below.next::<K, V>(&self.index, |_| ()).is_none() {
                 let below = self.moved_out(below, Find::PopFirst);
                 return mem::replace(self, below);
             }
@@ -350,17 +471,24 @@ impl<K: MapKey, V> Map<K, V> {
 
     /// Moves entries into a map of their own: the first or the last ones, by these pops.
     fn moved_out(&mut self, mut entries: Walk, pops: Find) -> Self {
-        let (mut keys, mut words) = (Loader::default(), Vec::new());
-        while let Some(word) = entries.next(&self.index) {
-            words.push(word);
-            if let Some((key, _)) = self.slots.get(word) {
-                key.encode(|key| keys.push(key));
+        let (mut keys, mut words, mut count) = (Loader::default(), Vec::new(), 0);
+        while let Some(place) = entries.next::<K, V>(&self.index, |word| self.slots.warm(word)) {
+            count += 1;
+            match place {
+                Place::Slot(word) => {
+                    words.push(word);
+                    if let Some((key, _)) = self.slots.get(word) {
+                        key.encode(|key| keys.push(key));
+                    }
+                }
+                // SAFETY: the index gave the place, and has not changed.
+                Place::Pair(pair) => unsafe { keys.push_pair(pair.number(), pair.word(), pair.layout) },
             }
         }
         let index = granted(keys.load());
         let slots = words.iter().filter_map(|word| self.slots.release(*word)).collect();
-        for _ in words {
-            self.index.pop(pops);
+        for _ in 0..count {
+            self.index.drop_end(pops);
         }
         Map { index, slots }
     }
@@ -377,7 +505,7 @@ impl<K: MapKey, V> Map<K, V> {
         range: impl RangeBounds<K>,
         picks: F,
     ) -> ExtractIf<'_, K, V, F> {
-        ExtractIf { walk: Walk::range(&range), map: self, picks }
+        ExtractIf { walk: Walk::range(&self.index, &range), map: self, picks }
     }
 
     /// The entries of a range, from either end: none where the start is beyond the end.
@@ -385,7 +513,7 @@ impl<K: MapKey, V> Map<K, V> {
     where
         K: Borrow<Q>,
     {
-        Range::new(self, Walk::range(&range))
+        Range::new(self, Walk::range(&self.index, &range))
     }
 
     /// The same, with values that can be changed.
@@ -393,19 +521,21 @@ impl<K: MapKey, V> Map<K, V> {
     where
         K: Borrow<Q>,
     {
-        RangeMut::new(self, Walk::range(&range))
+        let walk = Walk::range(&self.index, &range);
+        RangeMut::new(self, walk)
     }
 }
 
 impl<K: TextKey, V> Map<K, V> {
     /// The entries whose keys begin with a prefix.
     pub fn prefix(&self, prefix: impl AsRef<[u8]>) -> Range<'_, K, V> {
-        Range::new(self, Walk::prefix(prefix.as_ref()))
+        Range::new(self, Walk::prefix(&self.index, prefix.as_ref()))
     }
 
     /// The same, with values that can be changed.
     pub fn prefix_mut(&mut self, prefix: impl AsRef<[u8]>) -> RangeMut<'_, K, V> {
-        RangeMut::new(self, Walk::prefix(prefix.as_ref()))
+        let walk = Walk::prefix(&self.index, prefix.as_ref());
+        RangeMut::new(self, walk)
     }
 
     /// How many keys begin with a prefix. Takes time linear in their number.
@@ -416,4 +546,13 @@ impl<K: TextKey, V> Map<K, V> {
             self.prefix(prefix).count()
         }
     }
+}
+
+/// The number that a key has as its encoding, or what a closure makes of another one.
+#[inline]
+fn number_or<K: MapKey, T>(key: &K, other: impl FnOnce(Encoding<'_>) -> T) -> Result<u64, T> {
+    key.encode(|key| match key {
+        Encoding::Number(number) => Ok(number),
+        key => Err(other(key)),
+    })
 }

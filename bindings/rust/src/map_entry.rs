@@ -1,4 +1,5 @@
 //! The place of a key in a [`Map`], with its entry or without one.
+use crate::index::Place;
 use crate::map::Map;
 use crate::map_key::MapKey;
 use crate::refusal::granted;
@@ -21,8 +22,8 @@ pub struct VacantEntry<'a, K, V> {
 /// An entry of a [`Map`].
 pub struct OccupiedEntry<'a, K, V> {
     pub(crate) map: &'a mut Map<K, V>,
-    // INVARIANT: the map has an entry with this word.
-    pub(crate) word: u64,
+    // INVARIANT: the map has an entry at this place.
+    pub(crate) place: Place,
 }
 
 impl<'a, K: MapKey, V> Entry<'a, K, V> {
@@ -104,30 +105,31 @@ impl<'a, K: MapKey, V> VacantEntry<'a, K, V> {
     /// Sets the value of the key, and returns its entry.
     pub fn insert_entry(self, value: V) -> OccupiedEntry<'a, K, V> {
         let VacantEntry { map, key } = self;
-        let (word, _) = granted(map.put(key, value).map_err(|(_, _, refusal)| refusal));
-        OccupiedEntry { map, word }
+        let (spot, _) = granted(map.put(key, value).map_err(|(_, _, refusal)| refusal));
+        let place = map.place_of(spot).expect(IS_THERE);
+        OccupiedEntry { map, place }
     }
 }
 
 impl<'a, K, V> OccupiedEntry<'a, K, V> {
     /// The key, as the map has it.
     pub fn key(&self) -> &K {
-        self.map.slots.get(self.word).expect(IS_THERE).0
+        self.map.at(self.place).expect(IS_THERE).0
     }
 
     /// The value.
     pub fn get(&self) -> &V {
-        self.map.slots.get(self.word).expect(IS_THERE).1
+        self.map.at(self.place).expect(IS_THERE).1
     }
 
     /// The value, to be changed.
     pub fn get_mut(&mut self) -> &mut V {
-        self.map.slots.get_mut(self.word).expect(IS_THERE).1
+        self.map.at_mut(self.place).expect(IS_THERE).1
     }
 
     /// The value, to be changed for as long as the map is borrowed.
     pub fn into_mut(self) -> &'a mut V {
-        self.map.slots.get_mut(self.word).expect(IS_THERE).1
+        self.map.at_mut(self.place).expect(IS_THERE).1
     }
 
     /// Sets the value, and returns the one before.
@@ -144,7 +146,7 @@ impl<K: MapKey, V> OccupiedEntry<'_, K, V> {
 
     /// Removes the entry, and returns its key and value.
     pub fn remove_entry(self) -> (K, V) {
-        self.map.remove_word(self.word).expect(IS_THERE)
+        self.map.remove_at(self.place).expect(IS_THERE)
     }
 }
 

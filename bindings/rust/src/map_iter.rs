@@ -1,11 +1,21 @@
 //! Iterators of maps. None that gives values to be changed is `Clone`: it gives each once.
-use crate::index::Index;
+use crate::index::{Index, Place};
 use crate::map::Map;
 use crate::map_key::MapKey;
 use crate::range::{gives_all, least_and_greatest};
 use crate::slots::{Lent, Slots};
 use crate::walk::Walk;
 use std::iter::{self, FusedIterator};
+
+/// An entry of a map that is borrowed for so long, whose index gave the place.
+#[inline]
+fn at<K, V>(slots: &Slots<K, V>, place: Place) -> Option<(&K, &V)> {
+    match place {
+        Place::Slot(word) => slots.get(word),
+        // SAFETY: the map is borrowed, so it does not change.
+        Place::Pair(pair) => Some(unsafe { pair.lent() }),
+    }
+}
 
 /// The entries of a [`Map`] in a range, from either end.
 pub struct Range<'a, K, V> {
@@ -26,7 +36,8 @@ impl<'a, K, V> Iterator for Range<'a, K, V> {
     #[inline]
     fn next(&mut self) -> Option<Self::Item> {
         loop {
-            let entry = self.slots.get(self.walk.next(self.index)?);
+            let place = self.walk.next::<K, V>(self.index, |word| self.slots.warm(word))?;
+            let entry = at(self.slots, place);
             if entry.is_some() {
                 return entry;
             }
@@ -44,7 +55,8 @@ impl<K, V> DoubleEndedIterator for Range<'_, K, V> {
     #[inline]
     fn next_back(&mut self) -> Option<Self::Item> {
         loop {
-            let entry = self.slots.get(self.walk.next_back(self.index)?);
+            let place = self.walk.next_back::<K, V>(self.index, |word| self.slots.warm(word))?;
+            let entry = at(self.slots, place);
             if entry.is_some() {
                 return entry;
             }
@@ -69,9 +81,23 @@ impl<'a, K, V> RangeMut<'a, K, V> {
     /// Those that are left. The walk stays where it is.
     pub(crate) fn shown(&self) -> impl Iterator<Item = (&K, &V)> {
         let mut walk = self.walk.clone();
-        let words = iter::from_fn(move || walk.next(self.index));
+        let places = iter::from_fn(move || walk.next::<K, V>(self.index, |_| ()));
         // SAFETY: they are not given while this is borrowed.
-        words.filter_map(|word| unsafe { self.slots.show(word) })
+        places.filter_map(|place| unsafe {
+            match place {
+                Place::Slot(word) => self.slots.show(word),
+                Place::Pair(pair) => Some(pair.lent()),
+            }
+        })
+    }
+
+    // SAFETY: nobody has the entry yet.
+    #[inline]
+    unsafe fn give(&self, place: Place) -> Option<(&'a K, &'a mut V)> {
+        match place {
+            Place::Slot(word) => self.slots.give(word),
+            Place::Pair(pair) => Some(pair.lent_mut()),
+        }
     }
 }
 
@@ -81,8 +107,9 @@ impl<'a, K, V> Iterator for RangeMut<'a, K, V> {
     #[inline]
     fn next(&mut self) -> Option<Self::Item> {
         loop {
-            // SAFETY: a walk gives each word once, and no two entries have one slot.
-            let entry = unsafe { self.slots.give(self.walk.next(self.index)?) };
+            let place = self.walk.next::<K, V>(self.index, |word| self.slots.warm(word))?;
+            // SAFETY: a walk gives each place once, and no two entries have one slot.
+            let entry = unsafe { self.give(place) };
             if entry.is_some() {
                 return entry;
             }
@@ -94,8 +121,9 @@ impl<K, V> DoubleEndedIterator for RangeMut<'_, K, V> {
     #[inline]
     fn next_back(&mut self) -> Option<Self::Item> {
         loop {
+            let place = self.walk.next_back::<K, V>(self.index, |word| self.slots.warm(word))?;
             // SAFETY: as above.
-            let entry = unsafe { self.slots.give(self.walk.next_back(self.index)?) };
+            let entry = unsafe { self.give(place) };
             if entry.is_some() {
                 return entry;
             }
@@ -116,8 +144,8 @@ macro_rules! counted {
 
         impl<'a, K, V> $name<'a, K, V> {
             pub(crate) fn new(map: $map) -> Self {
-                let left = map.len();
-                $name { entries: $range::new(map, Walk::all()), left }
+                let (left, walk) = (map.len(), Walk::all(&map.index));
+                $name { entries: $range::new(map, walk), left }
             }
 
             pub(crate) fn entries(&self) -> &$range<'a, K, V> {
@@ -184,16 +212,28 @@ gives_all!(['a, K, V] ValuesMut<'a, K, V> => &'a mut V, |(_, value)| value);
 pub struct IntoIter<K, V> {
     map: Map<K, V>,
     walk: Walk,
+    left: usize,
 }
 
 impl<K, V> IntoIter<K, V> {
     pub(crate) fn new(map: Map<K, V>) -> Self {
-        IntoIter { map, walk: Walk::all() }
+        IntoIter { walk: Walk::all(&map.index), left: map.len(), map }
     }
 
     /// Those that are left. The walk stays where it is.
     pub(crate) fn shown(&self) -> Range<'_, K, V> {
         Range::new(&self.map, self.walk.clone())
+    }
+
+    #[inline]
+    fn take(&mut self, place: Place) -> Option<(K, V)> {
+        let entry = match place {
+            Place::Slot(word) => self.map.slots.take(word),
+            // SAFETY: the map does not change, and the walk gives each place once.
+            Place::Pair(pair) => Some(unsafe { pair.taken() }),
+        };
+        self.left -= usize::from(entry.is_some());
+        entry
     }
 }
 
@@ -203,7 +243,8 @@ impl<K, V> Iterator for IntoIter<K, V> {
     #[inline]
     fn next(&mut self) -> Option<(K, V)> {
         loop {
-            let entry = self.map.slots.take(self.walk.next(&self.map.index)?);
+            let place = self.walk.next::<K, V>(&self.map.index, |word| self.map.slots.warm(word))?;
+            let entry = self.take(place);
             if entry.is_some() {
                 return entry;
             }
@@ -211,7 +252,7 @@ impl<K, V> Iterator for IntoIter<K, V> {
     }
 
     fn size_hint(&self) -> (usize, Option<usize>) {
-        (self.map.len(), Some(self.map.len()))
+        (self.left, Some(self.left))
     }
 }
 
@@ -219,7 +260,8 @@ impl<K, V> DoubleEndedIterator for IntoIter<K, V> {
     #[inline]
     fn next_back(&mut self) -> Option<(K, V)> {
         loop {
-            let entry = self.map.slots.take(self.walk.next_back(&self.map.index)?);
+            let place = self.walk.next_back::<K, V>(&self.map.index, |word| self.map.slots.warm(word))?;
+            let entry = self.take(place);
             if entry.is_some() {
                 return entry;
             }
@@ -252,9 +294,10 @@ pub(crate) fn next_picked<K: MapKey, V>(
     mut picks: impl FnMut(&K, &mut V) -> bool,
 ) -> Option<(K, V)> {
     loop {
-        let word = walk.next(&map.index)?;
-        if map.slots.get_mut(word).is_some_and(|(key, value)| picks(key, value)) {
-            return map.remove_word(word);
+        let place = walk.next::<K, V>(&map.index, |word| map.slots.warm(word))?;
+        if map.at_mut(place).is_some_and(|(key, value)| picks(key, value)) {
+            walk.renew();
+            return map.remove_at(place);
         }
     }
 }

@@ -1,5 +1,5 @@
 //! Keys of maps, and their encodings.
-use std::cmp::Ordering;
+use crate::pairs::InPlace;
 
 /// Keys of a [`Map`](crate::Map) or a [`Set`](crate::Set): those whose encodings sort as they do.
 ///
@@ -35,6 +35,9 @@ pub trait MapKey: Ord {
     /// most together are numbers, which is faster.
     const WIDTH: Option<usize> = None;
 
+    #[doc(hidden)]
+    const IN_PLACE: InPlace<Self> = InPlace::NO;
+
     /// Gives the encoding of this key to a closure.
     fn encode<T>(&self, take: impl FnOnce(Encoding<'_>) -> T) -> T;
 
@@ -61,7 +64,6 @@ pub enum Encoding<'a> {
 const FEW: usize = 48;
 
 /// The bytes of a key that is made of parts.
-#[derive(Clone)]
 pub struct KeyBytes {
     // All of them are in `many`, unless that is empty.
     few: [u8; FEW],
@@ -151,54 +153,5 @@ pub(crate) const fn sum(one: Option<usize>, other: Option<usize>) -> Option<usiz
     match (one, other) {
         (Some(one), Some(other)) => Some(one + other),
         _ => None,
-    }
-}
-
-/// An encoding by value.
-#[derive(Clone)]
-pub(crate) enum OwnedEncoding {
-    Number(u64),
-    Bytes(KeyBytes),
-}
-
-impl OwnedEncoding {
-    pub(crate) fn new(encoding: Encoding<'_>) -> Self {
-        match encoding {
-            Encoding::Number(number) => OwnedEncoding::Number(number),
-            Encoding::Bytes(bytes) => {
-                let mut owned = KeyBytes::new();
-                owned.extend(bytes);
-                OwnedEncoding::Bytes(owned)
-            }
-        }
-    }
-
-    #[inline]
-    pub(crate) fn lent(&self) -> Encoding<'_> {
-        match self {
-            OwnedEncoding::Number(number) => Encoding::Number(*number),
-            OwnedEncoding::Bytes(bytes) => Encoding::Bytes(bytes.as_slice()),
-        }
-    }
-}
-
-/// An end of a range: a key, and whether it is within. None where the range has no end there.
-#[derive(Clone)]
-pub(crate) struct Edge(pub(crate) Option<(OwnedEncoding, bool)>);
-
-impl Edge {
-    pub(crate) fn lent(&self) -> Option<(Encoding<'_>, bool)> {
-        self.0.as_ref().map(|(key, inclusive)| (key.lent(), *inclusive))
-    }
-
-    /// Whether a key is within, where within is this side of the edge.
-    pub(crate) fn allows(&self, side: Ordering, key: Encoding<'_>) -> bool {
-        match self.lent() {
-            Some((edge, inclusive)) => match key.cmp(&edge) {
-                Ordering::Equal => inclusive,
-                ordering => ordering == side,
-            },
-            None => true,
-        }
     }
 }

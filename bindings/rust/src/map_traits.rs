@@ -1,9 +1,12 @@
 //! What maps have of std's traits, as `BTreeMap` has them.
+use crate::index::{Index, Loader, Place};
 use crate::map::Map;
 use crate::map_iter::{IntoIter, Iter, IterMut};
 use crate::map_key::MapKey;
+use crate::pairs::word_of;
 use crate::refusal::granted;
 use crate::slots::Slots;
+use crate::walk::Walk;
 use std::borrow::Borrow;
 use std::cmp::Ordering;
 use std::hash::{Hash, Hasher};
@@ -17,6 +20,9 @@ impl<K, V> Default for Map<K, V> {
 
 impl<K: Clone, V: Clone> Clone for Map<K, V> {
     fn clone(&self) -> Self {
+        if let Index::Pairs(..) = self.index {
+            return self.clone_pairs();
+        }
         let mut entries = Vec::with_capacity(self.len());
         let keys = self.index.picked(|word| {
             let entry = self.slots.get(word);
@@ -24,6 +30,20 @@ impl<K: Clone, V: Clone> Clone for Map<K, V> {
             entry.is_some()
         });
         Map { index: granted(keys.load()), slots: Slots::from_iter(entries) }
+    }
+}
+
+impl<K: Clone, V: Clone> Map<K, V> {
+    fn clone_pairs(&self) -> Self {
+        let (mut entries, mut places) = (Loader::default(), Walk::all(&self.index));
+        while let Some(place) = places.next::<K, V>(&self.index, |_| ()) {
+            if let (Place::Pair(pair), Some((key, value))) = (place, self.at(place)) {
+                // SAFETY: the index gave the place, and does not change.
+                let number = unsafe { pair.number() };
+                entries.push_pair(number, word_of(pair.layout, key.clone(), value.clone()), pair.layout);
+            }
+        }
+        Map { index: granted(entries.load()), slots: Slots::new() }
     }
 }
 

@@ -1,4 +1,5 @@
 //! The functions of `bindings/c/art.h`, which says what they do and what their callers owe.
+use std::mem::MaybeUninit;
 
 /// A handle, of either kind.
 #[derive(Clone)]
@@ -10,6 +11,25 @@ pub struct RawMap {
 impl RawMap {
     /// A handle that holds no map, for `new`.
     pub(crate) const EMPTY: RawMap = RawMap { opaque: std::ptr::null_mut() };
+}
+
+/// The value of an entry, as the library has it: bytes that it moves and does not read.
+pub(crate) type Word = MaybeUninit<u64>;
+
+/// An entry of a map by numbers, where it lies in the map.
+#[repr(C)]
+pub(crate) struct Pair {
+    pub(crate) key: u64,
+    pub(crate) value: Word,
+}
+
+/// An entry of a map by bytes: where its key lies, and its value.
+#[derive(Clone, Copy)]
+#[repr(C)]
+pub(crate) struct BytesEntry {
+    pub(crate) key: *const u8,
+    pub(crate) key_len: usize,
+    pub(crate) value: u64,
 }
 
 pub(crate) const NONE: u32 = 0;
@@ -61,6 +81,16 @@ extern "C" {
         count: *mut usize,
         key_len: *mut usize,
     ) -> u32;
+    pub(crate) fn art_bytes_page(
+        map: *mut RawMap,
+        prefix: *const u8,
+        prefix_len: usize,
+        from: *const u8,
+        len: usize,
+        inclusive: bool,
+        entries: *mut BytesEntry,
+        room: usize,
+    ) -> usize;
     pub(crate) fn art_bytes_insert_many(
         map: *mut RawMap,
         keys: *const u8,
@@ -114,13 +144,14 @@ extern "C" {
     pub(crate) fn art_u64_free(map: *mut RawMap);
     pub(crate) fn art_u64_len(map: *mut RawMap) -> usize;
     pub(crate) fn art_u64_clear(map: *mut RawMap);
-    pub(crate) fn art_u64_insert(map: *mut RawMap, key: u64, value: u64, before: *mut u64) -> u32;
+    pub(crate) fn art_u64_insert(map: *mut RawMap, key: u64, value: Word, before: *mut u64) -> u32;
     pub(crate) fn art_u64_get(map: *mut RawMap, key: u64, value: *mut u64) -> u32;
     pub(crate) fn art_u64_remove(map: *mut RawMap, key: u64, value: *mut u64) -> u32;
     pub(crate) fn art_u64_first(map: *mut RawMap, key: *mut u64, value: *mut u64) -> u32;
     pub(crate) fn art_u64_last(map: *mut RawMap, key: *mut u64, value: *mut u64) -> u32;
     pub(crate) fn art_u64_pop_first(map: *mut RawMap, key: *mut u64, value: *mut u64) -> u32;
     pub(crate) fn art_u64_pop_last(map: *mut RawMap, key: *mut u64, value: *mut u64) -> u32;
+    pub(crate) fn art_u64_page(map: *mut RawMap, from: u64, inclusive: bool, entries: *mut *mut Pair) -> usize;
     pub(crate) fn art_u64_next_many(
         map: *mut RawMap,
         from: u64,

@@ -151,7 +151,7 @@ impl<K: MapKey> Set<K> {
 
     /// The keys of a range that a closure picks: each is removed as it is given. Those that are not asked for stay.
     pub fn extract_if<F: FnMut(&K) -> bool>(&mut self, range: impl RangeBounds<K>, picks: F) -> ExtractIf<'_, K, F> {
-        ExtractIf { walk: Walk::range(&range), set: self, picks }
+        ExtractIf { walk: Walk::range(&self.map.index, &range), set: self, picks }
     }
 
     /// The keys of a range, from either end: none where the start is beyond the end.

@@ -1,4 +1,5 @@
 //! The keys and values of a map, each entry in a slot, whose number the library has as its word.
+use crate::lent::warm;
 use crate::refusal::Refusal;
 use std::marker::PhantomData;
 use std::mem;
@@ -47,6 +48,12 @@ impl<K, V> Slots<K, V> {
             Some(Slot::Taken(key, value)) => Some((key, value)),
             _ => None,
         }
+    }
+
+    /// Asks for the memory of a slot, which is looked at soon.
+    #[inline]
+    pub(crate) fn warm(&self, word: u64) {
+        warm(self.slots.as_ptr().wrapping_add(word as usize));
     }
 
     /// The word of the slot that the next entry takes, where memory for it is found.
@@ -106,6 +113,12 @@ impl<K, V> Slots<K, V> {
         self.taken += 1;
     }
 
+    /// Appends an entry in the slot behind all others.
+    pub(crate) fn push(&mut self, key: K, value: V) {
+        self.slots.push(Slot::Taken(key, value));
+        self.taken += 1;
+    }
+
     /// The entries, to be changed for as long as these are borrowed.
     pub(crate) fn lent(&mut self) -> Lent<'_, K, V> {
         Lent { slots: NonNull::from(self.slots.as_mut_slice()), lent: PhantomData }
@@ -132,6 +145,12 @@ unsafe impl<K: Send, V: Send> Send for Lent<'_, K, V> {}
 unsafe impl<K: Sync, V: Sync> Sync for Lent<'_, K, V> {}
 
 impl<'a, K, V> Lent<'a, K, V> {
+    /// Asks for the memory of a slot, which is looked at soon.
+    #[inline]
+    pub(crate) fn warm(&self, word: u64) {
+        warm(self.slots.as_ptr().cast::<Slot<K, V>>().wrapping_add(word as usize));
+    }
+
     fn slot(&self, word: u64) -> Option<*mut Slot<K, V>> {
         // SAFETY: the slot is one of them.
         ((word as usize) < self.slots.len())

@@ -1,77 +1,77 @@
-use crate::index::{Index, MOST_FETCHED};
-use crate::key::Toward;
-use crate::map_key::{Edge, MapKey, OwnedEncoding};
-use std::cmp::Ordering;
+use crate::byte_walk::ByteWalk;
+use crate::index::{mixed, Index, Place};
+use crate::map_key::{Encoding, MapKey};
+use crate::number_walk::NumberWalk;
+use crate::pairs::{may_be_pairs, Layout, PairPlace};
+use crate::raw::Pair;
 use std::ops::{Bound, RangeBounds};
+use std::ptr::NonNull;
 
-/// Where an iterator between two bounds stands, from either end. It gives words, and those that it gave may be removed
-/// meanwhile; no others may come or go.
+/// Where an iterator between two bounds stands, from either end. It gives the places of entries. Before one of these is
+/// removed, the walk is renewed, and no others may come or go.
 #[derive(Clone)]
-pub(crate) struct Walk {
-    ahead: Fetched,
-    behind: Fetched,
-    /// The start of the range, or the last key that was fetched ahead.
-    from: Edge,
-    /// The end of the range, or the last key that was fetched behind.
-    until: Edge,
-    /// How many entries to fetch next.
-    most: usize,
-    /// Whether there are none between `from` and `until`.
-    met: bool,
+pub(crate) enum Walk {
+    /// Of slots by numbers, or of no map.
+    Numbers(NumberWalk),
+    Pairs(NumberWalk, Layout),
+    /// Of slots by byte strings.
+    Bytes(ByteWalk),
 }
 
-/// Words that were fetched, in the order in which they were, and how many of them were given.
-#[derive(Clone, Default)]
-struct Fetched {
-    words: Vec<u64>,
-    given: usize,
+fn number_of<Q: MapKey + ?Sized>(key: &Q) -> u64 {
+    key.encode(|key| match key {
+        Encoding::Number(key) => key,
+        Encoding::Bytes(_) => mixed(),
+    })
 }
 
-/// How many entries are fetched first: a short range wants few, a long one ever more.
-const FIRST_FETCHED: usize = 4;
-
-impl Fetched {
-    #[inline]
-    fn first(&mut self) -> Option<u64> {
-        let word = *self.words.get(self.given)?;
-        self.given += 1;
-        Some(word)
-    }
-
-    fn last(&mut self) -> Option<u64> {
-        if self.given == self.words.len() {
-            return None;
-        }
-        self.words.pop()
-    }
+fn bytes_of<Q: MapKey + ?Sized>(key: &Q) -> Vec<u8> {
+    key.encode(|key| match key {
+        Encoding::Number(_) => mixed(),
+        Encoding::Bytes(key) => key.to_vec(),
+    })
 }
 
-/// The edge of a range at a bound.
-fn edge<Q: MapKey + ?Sized>(bound: Bound<&Q>) -> Edge {
-    let (key, inclusive) = match bound {
-        Bound::Included(key) => (key, true),
-        Bound::Excluded(key) => (key, false),
-        Bound::Unbounded => return Edge(None),
-    };
-    Edge(Some((key.encode(OwnedEncoding::new), inclusive)))
+/// The word of a pair of a map whose entries have slots.
+#[inline]
+fn slot_of(pair: NonNull<Pair>) -> Place {
+    // SAFETY: a walk gives pairs that are there, and the words of slots are numbers.
+    Place::Slot(unsafe { (*pair.as_ptr()).value.assume_init() })
 }
+
+/// How far ahead of an entry its slot is asked for.
+pub(crate) const AHEAD: usize = 16;
 
 impl Walk {
-    pub(crate) fn new(from: Edge, until: Edge) -> Self {
-        let (ahead, behind) = (Fetched::default(), Fetched::default());
-        Walk { ahead, behind, from, until, most: FIRST_FETCHED, met: false }
+    /// Of all entries.
+    pub(crate) fn all(index: &Index) -> Self {
+        match index {
+            Index::Bytes(_) => Walk::Bytes(ByteWalk::new(Bound::Unbounded, Bound::Unbounded)),
+            _ => Self::numbers(index, Bound::Unbounded, Bound::Unbounded),
+        }
     }
 
-    pub(crate) fn all() -> Self {
-        Self::new(Edge(None), Edge(None))
+    fn numbers(index: &Index, from: Bound<u64>, until: Bound<u64>) -> Self {
+        let walk = NumberWalk::new(from, until);
+        match index {
+            Index::Pairs(_, layout) => Walk::Pairs(walk, *layout),
+            _ => Walk::Numbers(walk),
+        }
     }
 
-    pub(crate) fn range<Q: MapKey + ?Sized>(range: &impl RangeBounds<Q>) -> Self {
-        Self::new(edge(range.start_bound()), edge(range.end_bound()))
+    /// Of keys in a range.
+    pub(crate) fn range<Q: MapKey + ?Sized>(index: &Index, range: &impl RangeBounds<Q>) -> Self {
+        let (from, until) = (range.start_bound(), range.end_bound());
+        match index {
+            Index::Empty => Self::all(index),
+            Index::Bytes(_) => Walk::Bytes(ByteWalk::new(from.map(bytes_of), until.map(bytes_of))),
+            Index::Numbers(_) | Index::Pairs(..) => Self::numbers(index, from.map(number_of), until.map(number_of)),
+        }
     }
 
     /// Of keys that begin with a prefix.
-    pub(crate) fn prefix(prefix: &[u8]) -> Self {
+    pub(crate) fn prefix(index: &Index, prefix: &[u8]) -> Self {
+        let Index::Bytes(_) = index else { return Self::all(index) };
         // Above all of them is the prefix without the 255s at its end, and one more.
         let mut end = prefix.to_vec();
         while end.last() == Some(&u8::MAX) {
@@ -80,67 +80,86 @@ impl Walk {
         let until = match end.last_mut() {
             Some(last) => {
                 *last += 1;
-                Bound::Excluded(&end[..])
+                Bound::Excluded(end)
             }
             None => Bound::Unbounded,
         };
-        Self::new(edge(Bound::Included(prefix)), edge(until))
+        Walk::Bytes(ByteWalk::new(Bound::Included(prefix.to_vec()), until))
     }
 
+    /// The next place in a map of these types. Slots behind it are asked for by `warm`.
     #[inline]
-    pub(crate) fn next(&mut self, index: &Index) -> Option<u64> {
-        self.ahead.first().or_else(|| {
-            self.fetch(index, Toward::End);
-            // Where there is none between, what is left was fetched behind.
-            self.ahead.first().or_else(|| self.behind.last())
-        })
-    }
-
-    #[inline]
-    pub(crate) fn next_back(&mut self, index: &Index) -> Option<u64> {
-        self.behind.first().or_else(|| {
-            self.fetch(index, Toward::Start);
-            self.behind.first().or_else(|| self.ahead.last())
-        })
-    }
-
-    fn fetch(&mut self, index: &Index, toward: Toward) {
-        if self.met {
-            return;
-        }
-        let (fetched, near, far, side) = match toward {
-            Toward::End => (&mut self.ahead, &mut self.from, &self.until, Ordering::Less),
-            Toward::Start => (&mut self.behind, &mut self.until, &self.from, Ordering::Greater),
+    pub(crate) fn next<K, V>(&mut self, index: &Index, warm: impl Fn(u64)) -> Option<Place> {
+        let first = match self {
+            Walk::Pairs(walk, layout) if may_be_pairs::<K, V>() => {
+                walk.first().map(|pair| Place::Pair(PairPlace { pair, layout: *layout }))
+            }
+            Walk::Pairs(..) => None,
+            Walk::Numbers(walk) => {
+                walk.slot(AHEAD).into_iter().for_each(&warm);
+                walk.first().map(slot_of)
+            }
+            Walk::Bytes(walk) => walk.first(&warm).map(Place::Slot),
         };
-        let (last, met) = index.fetch(toward, near.lent(), self.most, |batch| {
-            let count = batch.words.len();
-            // As a rule all are within.
-            let is_within = |at: usize| far.allows(side, batch.key(at));
-            let within = if count == 0 || is_within(count - 1) { count } else { partition_point(count, is_within) };
-            fetched.given = 0;
-            fetched.words.clear();
-            fetched.words.extend_from_slice(&batch.words[..within]);
-            let last = within.checked_sub(1).map(|last| OwnedEncoding::new(batch.key(last)));
-            (last, within < count || batch.is_last)
-        });
-        if let Some(last) = last {
-            *near = Edge(Some((last, false)));
-        }
-        self.met = met;
-        self.most = (self.most * 2).min(MOST_FETCHED);
+        first.or_else(|| self.next_far(index, &warm))
     }
-}
 
-/// How many of the first ones hold, of so many.
-fn partition_point(count: usize, holds: impl Fn(usize) -> bool) -> usize {
-    let (mut low, mut high) = (0, count);
-    while low < high {
-        let middle = low + (high - low) / 2;
-        if holds(middle) {
-            low = middle + 1;
-        } else {
-            high = middle;
+    /// The last place.
+    #[inline]
+    pub(crate) fn next_back<K, V>(&mut self, index: &Index, warm: impl Fn(u64)) -> Option<Place> {
+        let last = match self {
+            Walk::Pairs(walk, layout) if may_be_pairs::<K, V>() => {
+                walk.last().map(|pair| Place::Pair(PairPlace { pair, layout: *layout }))
+            }
+            Walk::Pairs(..) => None,
+            Walk::Numbers(walk) => {
+                walk.slot_back(AHEAD).into_iter().for_each(&warm);
+                walk.last().map(slot_of)
+            }
+            Walk::Bytes(walk) => walk.last(&warm).map(Place::Slot),
+        };
+        last.or_else(|| self.next_far_back(index, &warm))
+    }
+
+    // The next place, by the library.
+    #[inline(never)]
+    fn next_far(&mut self, index: &Index, warm: &impl Fn(u64)) -> Option<Place> {
+        match (self, index) {
+            (Walk::Pairs(walk, layout), Index::Pairs(map, _)) => {
+                walk.next_lent(map).map(|pair| Place::Pair(PairPlace { pair, layout: *layout }))
+            }
+            (Walk::Numbers(walk), Index::Numbers(map)) => {
+                let next = walk.next_lent(map).map(slot_of);
+                (0..AHEAD).map_while(|at| walk.slot(at)).for_each(warm);
+                next
+            }
+            (Walk::Bytes(walk), Index::Bytes(map)) => walk.next_fetched(map, warm).map(Place::Slot),
+            _ => None,
         }
     }
-    low
+
+    // The last place, by the library.
+    #[inline(never)]
+    fn next_far_back(&mut self, index: &Index, warm: &impl Fn(u64)) -> Option<Place> {
+        match (self, index) {
+            (Walk::Pairs(walk, layout), Index::Pairs(map, _)) => {
+                walk.last_lent(map).map(|pair| Place::Pair(PairPlace { pair, layout: *layout }))
+            }
+            (Walk::Numbers(walk), Index::Numbers(map)) => {
+                let last = walk.last_lent(map).map(slot_of);
+                (0..AHEAD).map_while(|at| walk.slot_back(at)).for_each(warm);
+                last
+            }
+            (Walk::Bytes(walk), Index::Bytes(map)) => walk.last_fetched(map, warm).map(Place::Slot),
+            _ => None,
+        }
+    }
+
+    /// Makes ready for a change of the index.
+    pub(crate) fn renew(&mut self) {
+        match self {
+            Walk::Numbers(walk) | Walk::Pairs(walk, _) => walk.renew(),
+            Walk::Bytes(walk) => walk.renew(),
+        }
+    }
 }

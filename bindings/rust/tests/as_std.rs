@@ -11,6 +11,7 @@ macro_rules! by {
             use std::sync::Mutex;
 
             include!("common/as_std.rs");
+            include!("common/as_std_sizes.rs");
         }
     };
 }

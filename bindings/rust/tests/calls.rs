@@ -38,7 +38,8 @@ fn keys_may_be_given_in_many_forms() {
     assert_eq!(map.range("a".."t").count(), 1);
     let mut numbers = NumberMap::new();
     numbers.insert(5, 25);
-    assert_eq!((numbers.get(5), numbers.get(&5)), (Some(25), Some(25)));
+    let five = &5;
+    assert_eq!((numbers.get(5), numbers.get(five)), (Some(25), Some(25)));
 }
 
 #[test]

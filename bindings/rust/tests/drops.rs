@@ -198,3 +198,60 @@ fn a_closure_that_panics_keeps_all_entries() {
     drop(map);
     assert_eq!(drops.get(), 100);
 }
+
+/// How many values are dropped once one of them panics, by which call, and what is left in the map.
+#[test]
+fn calls_in_which_a_drop_panics_drop_the_others() {
+    let drops = Cell::new(0);
+    let with_one = |count, panics| {
+        let mut map = filled(&drops, count);
+        drop(map.insert(panics, Counted { drops: &drops, panics: true }));
+        drops.set(0);
+        map
+    };
+    let mut entries = with_one(100, 70).into_iter();
+    drop((entries.next(), entries.next_back()));
+    assert!(catch_unwind(AssertUnwindSafe(|| drop(entries))).is_err());
+    assert_eq!(drops.get(), 100);
+    let mut map = with_one(100, 70);
+    assert!(catch_unwind(AssertUnwindSafe(|| map.retain(|key, _| key % 2 == 1))).is_err());
+    assert_eq!((drops.get(), map.len(), map.contains_key(&70), map.contains_key(&72)), (36, 64, false, true));
+    map.retain(|key, _| key % 2 == 1);
+    assert_eq!((drops.get(), map.len(), map.keys().all(|key| key % 2 == 1)), (50, 50, true));
+    let (mut one, mut other) = (filled(&drops, 10), with_one(20, 15));
+    one.append(&mut other);
+    assert_eq!((drops.get(), one.len(), other.len()), (10, 20, 0));
+    assert!(catch_unwind(AssertUnwindSafe(|| drop(one.split_off(&5)))).is_err());
+    assert_eq!((drops.get(), one.len()), (25, 5));
+}
+
+/// A closure or a copy that panics leaves a map in which all other calls go on.
+#[test]
+fn closures_that_panic_lose_no_small_entry() {
+    let mut map: Map<u64, u32> = (0..500).map(|key| (key, 0)).collect();
+    let call = AssertUnwindSafe(|| {
+        map.extract_if(.., |key, value| {
+            *value += 1;
+            assert!(*key != 300, "a closure that panics");
+            key % 3 == 0
+        })
+        .for_each(drop)
+    });
+    assert!(catch_unwind(call).is_err());
+    assert_eq!((map.len(), map[&299], map[&300], map[&301]), (400, 1, 1, 0));
+    assert!(map.keys().is_sorted() && map.keys().all(|key| key % 3 > 0 || *key >= 300));
+
+    #[derive(Debug)]
+    struct Panics(u32);
+
+    impl Clone for Panics {
+        fn clone(&self) -> Self {
+            assert!(self.0 != 70, "a copy that panics");
+            Panics(self.0)
+        }
+    }
+
+    let map: Map<u16, Panics> = (0..100).map(|key| (key, Panics(u32::from(key)))).collect();
+    assert!(catch_unwind(AssertUnwindSafe(|| map.clone())).is_err());
+    assert!(map.values().map(|value| value.0).eq(0..100));
+}

@@ -1,4 +1,4 @@
-//! Random calls of a map beside `BTreeMap`, for keys of seven types: what each returns, and the entries at the end.
+//! Random calls of a map beside `BTreeMap`, for keys and values of many types: what each returns, and the entries at the end.
 mod common;
 
 use common::{is_range, walk_both, Random};
@@ -10,39 +10,94 @@ use verified_art::{Map, MapKey};
 
 const CALLS: u32 = 60_000;
 
+/// Values, of which many differ.
+trait Value: Clone + PartialEq + Debug + Default {
+    fn of(number: u64) -> Self;
+    /// Makes another one of it.
+    fn change(&mut self, by: char);
+    /// Whether a closure picks it.
+    fn is_picked(&self) -> bool;
+}
+
+impl Value for String {
+    fn of(number: u64) -> Self {
+        number.to_string()
+    }
+
+    fn change(&mut self, by: char) {
+        self.push(by);
+    }
+
+    fn is_picked(&self) -> bool {
+        self.len() % 2 == 0
+    }
+}
+
+/// Of numbers, by one of 64 bits.
+macro_rules! values {
+    ($($value:ty, |$number:ident| $of:expr, |$this:ident| $word:expr;)*) => {
+        $(impl Value for $value {
+            fn of($number: u64) -> Self {
+                $of
+            }
+
+            fn change(&mut self, by: char) {
+                let $this = *self;
+                *self = Self::of($word.wrapping_mul(3).wrapping_add(u64::from(by)));
+            }
+
+            fn is_picked(&self) -> bool {
+                let $this = *self;
+                $word % 3 == 0
+            }
+        })*
+    };
+}
+
+values! {
+    u64, |number| number, |it| it;
+    u8, |number| number as u8, |it| u64::from(it);
+    bool, |number| number % 2 == 0, |it| u64::from(it);
+    (), |_number| (), |_it| 0u64;
+    [u8; 3], |number| [number as u8, (number >> 8) as u8, 7], |it| u64::from(it[0]);
+    Option<i32>, |number| (number % 4 > 0).then_some(number as i32), |it| it.map_or(1, |it| it as u64);
+    (u32, char), |number| (number as u32, 'a'), |it| u64::from(it.0);
+    u128, |number| u128::from(number) << 60, |it| (it >> 60) as u64;
+}
+
 /// Changes some values that two iterators give, each time from a random end. They are held meanwhile.
-fn change_both<'a, K: PartialEq + Debug + 'a>(
+fn change_both<'a, K: PartialEq + Debug + 'a, V: Value + 'a>(
     random: &mut Random,
     most: u64,
-    mut ours: impl DoubleEndedIterator<Item = (&'a K, &'a mut String)>,
-    mut theirs: impl DoubleEndedIterator<Item = (&'a K, &'a mut String)>,
+    mut ours: impl DoubleEndedIterator<Item = (&'a K, &'a mut V)>,
+    mut theirs: impl DoubleEndedIterator<Item = (&'a K, &'a mut V)>,
 ) {
     let mut held = Vec::new();
     for _ in 0..most {
         let found = if random.coin() { (ours.next(), theirs.next()) } else { (ours.next_back(), theirs.next_back()) };
         assert_eq!(found.0, found.1);
         let (Some((_, one)), Some((_, other))) = found else { break };
-        other.push('+');
+        other.change('+');
         held.push((one, other));
     }
     for (one, other) in held {
-        one.push('+');
+        one.change('+');
         assert_eq!(one, other);
     }
 }
 
 /// A map, and the same one of std.
-struct Both<K> {
-    map: Map<K, String>,
-    model: BTreeMap<K, String>,
+struct Both<K, V> {
+    map: Map<K, V>,
+    model: BTreeMap<K, V>,
 }
 
-impl<K: MapKey + Clone + Debug> Both<K> {
+impl<K: MapKey + Clone + Debug, V: Value> Both<K, V> {
     fn change(&mut self, random: &mut Random, key: K) {
         let Both { map, model } = self;
         match random.below(12) {
             0..=4 => {
-                let value = random.next().to_string();
+                let value = V::of(random.next());
                 assert_eq!(map.insert(key.clone(), value.clone()), model.insert(key, value));
             }
             5..=6 => {
@@ -51,8 +106,8 @@ impl<K: MapKey + Clone + Debug> Both<K> {
                 assert_eq!(map.remove_entry(&key), model.remove_entry(&key));
             }
             7 => {
-                map.get_mut(&key).into_iter().for_each(|value| value.push('!'));
-                model.get_mut(&key).into_iter().for_each(|value| value.push('!'));
+                map.get_mut(&key).into_iter().for_each(|value| value.change('!'));
+                model.get_mut(&key).into_iter().for_each(|value| value.change('!'));
             }
             8 => assert_eq!(map.entry(key.clone()).or_default(), model.entry(key).or_default()),
             9 if random.below(4) == 0 => assert_eq!(map.pop_first(), model.pop_first()),
@@ -68,15 +123,15 @@ impl<K: MapKey + Clone + Debug> Both<K> {
             0 => self.split_and_append(random, key),
             1 => {
                 let most = random.below(100) as usize;
-                let picked: Vec<_> = map.extract_if(&key.., |_, value| value.len() % 2 == 0).take(most).collect();
-                let due = model.range(&key..).filter(|(_, value)| value.len() % 2 == 0).take(most);
+                let picked: Vec<_> = map.extract_if(&key.., |_, value| value.is_picked()).take(most).collect();
+                let due = model.range(&key..).filter(|(_, value)| value.is_picked()).take(most);
                 let due: Vec<_> = due.map(|(key, value)| (key.clone(), value.clone())).collect();
                 due.iter().for_each(|(key, _)| assert!(model.remove(key).is_some()));
                 assert_eq!(picked, due);
             }
             2 => {
-                map.retain(|it, value| *it < key || !value.ends_with('3'));
-                model.retain(|it, value| *it < key || !value.ends_with('3'));
+                map.retain(|it, value| *it < key || !value.is_picked());
+                model.retain(|it, value| *it < key || !value.is_picked());
             }
             3 if random.below(20) == 0 => {
                 map.clear();
@@ -93,8 +148,8 @@ impl<K: MapKey + Clone + Debug> Both<K> {
             std::mem::swap(&mut ours, &mut self.map);
             std::mem::swap(&mut theirs, &mut self.model);
         }
-        ours.insert(key.clone(), "of one of them".to_string());
-        theirs.insert(key, "of one of them".to_string());
+        ours.insert(key.clone(), V::of(5));
+        theirs.insert(key, V::of(5));
         self.map.append(&mut ours);
         self.model.append(&mut theirs);
         assert!(ours.is_empty());
@@ -136,8 +191,12 @@ impl<K: MapKey + Clone + Debug> Both<K> {
 }
 
 fn same_calls<K: MapKey + Clone + Debug>(seed: u64, any_key: impl Fn(&mut Random) -> K) {
+    same_calls_of::<K, String>(seed, any_key);
+}
+
+fn same_calls_of<K: MapKey + Clone + Debug, V: Value>(seed: u64, any_key: impl Fn(&mut Random) -> K) {
     let mut random = Random(seed);
-    let mut both = Both { map: Map::new(), model: BTreeMap::new() };
+    let mut both = Both::<K, V> { map: Map::new(), model: BTreeMap::new() };
     for _ in 0..CALLS {
         let key = any_key(&mut random);
         if random.below(3) > 0 {
@@ -159,6 +218,33 @@ fn text(random: &mut Random) -> String {
 fn by_numbers() {
     same_calls::<u64>(1, Random::number);
     same_calls::<i32>(2, |random| random.below(3000) as i32 - 1500);
+}
+
+/// Entries that lie in the library, or would if they were smaller.
+#[test]
+fn small_entries() {
+    same_calls_of::<u64, u64>(8, Random::number);
+    same_calls_of::<u64, Option<i32>>(9, |random| u64::MAX - random.below(3000));
+    same_calls_of::<usize, (u32, char)>(10, |random| random.below(2000) as usize);
+    same_calls_of::<u64, u128>(11, |random| random.below(2000));
+    same_calls_of::<u16, [u8; 3]>(12, |random| random.number() as u16);
+    same_calls_of::<u8, u8>(13, |random| random.below(256) as u8);
+    same_calls_of::<bool, u64>(14, Random::coin);
+    same_calls_of::<char, bool>(15, |random| char::from_u32(random.below(0xd000) as u32).unwrap());
+    same_calls_of::<u32, ()>(16, |random| random.below(5000) as u32);
+}
+
+/// Entries that lie in the word of the library, or would if they were smaller.
+#[test]
+fn small_entries_by_other_numbers() {
+    same_calls_of::<i32, u8>(17, |random| random.below(3000) as i32 - 1500);
+    same_calls_of::<i64, ()>(18, |random| random.number() as i64);
+    same_calls_of::<i64, u8>(19, |random| random.number() as i64);
+    same_calls_of::<(u16, u16), [u8; 3]>(20, |random| (random.below(40) as u16, random.below(90) as u16));
+    same_calls_of::<Option<u32>, ()>(21, |random| random.coin().then(|| random.below(1000) as u32));
+    same_calls_of::<Reverse<u32>, u8>(22, |random| Reverse(random.below(2000) as u32));
+    same_calls_of::<[u8; 4], u8>(23, |random| (random.below(2000) as u32).to_be_bytes());
+    same_calls_of::<(), u64>(24, |_| ());
 }
 
 #[test]

@@ -119,6 +119,12 @@ impl Word for u64 {
     }
 }
 
+impl Word for &u64 {
+    fn word(self) -> u64 {
+        *self
+    }
+}
+
 impl Word for &mut u64 {
     fn word(self) -> u64 {
         *self
@@ -139,6 +145,7 @@ impl Word for &mut Counted {
 
 any_map!(WordKey, WordMap<K>, K::clone, |value| value, Word::word, |_| 0);
 any_map!(MapKey, Map<K, Counted>, |key| key, Counted::new, Word::word, Map::len);
+any_map!(MapKey, Map<K, u64>, |key| key, |value| value, Word::word, |_| 0);
 
 /// The keys of maps of words.
 trait WordKey: Key + AsKey<Self> {}
@@ -275,6 +282,7 @@ macro_rules! tests {
 
             #[test]
             fn of_values() {
+                super::$name::<u64, Map<u64, u64>>();
                 super::$name::<u64, Map<u64, Counted>>();
                 super::$name::<Vec<u8>, Map<Vec<u8>, Counted>>();
                 super::$name::<(u64, String), Map<(u64, String), Counted>>();
