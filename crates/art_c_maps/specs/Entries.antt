@@ -1,11 +1,12 @@
 -- A map as the list of its entries, ascending by key: what calls read of it, and what they leave.
-use Rattle.std.specs.Prelude.{ℕ, ◌-◌, Bool, List, ◌++◌, drop, length, filter, map, reverse, take, Option, Vec, nat_eq, slice_get, if◌then◌else◌}
+use Rattle.std.specs.Prelude.{ℕ, ◌-◌, Bool, List, ◌++◌, drop, length, filter, map, reverse, take, Option, nat_eq, slice_get, if◌then◌else◌}
 use Rattle.std.specs.BTreeMap.{insert_entry, is_at}
 use Rattle.std.specs.List.{fold, starts_with}
 use Rattle.std.specs.Map.{lookup, remove_entry}
 use Rattle.std.specs.Ordering.{is_ge, is_gt, is_le, is_lt}
-use Rattle.std.specs.Vec.{vec_items}
 use Rattle.std.specs.declared.cmp.Ordering.{Ordering}
+use Rattle.art_c_maps.specs.ByteStrings.{key_bytes}
+use Rattle.art_c_maps.specs.declared.byte_string.ByteString.{ByteString}
 
 module _ {K V : Type 0} (order : K → K → Ordering) where
   -- the entries with this one before the first of a greater key, or with this value for the key
@@ -63,5 +64,5 @@ abbrev pub begun_with : {X : Type 0} → List X → List X → List X
 begun_with items buffer = items ++ drop (length items) buffer
 
 -- the entries with the bytes of each key
-abbrev pub entries_in_bytes : {A V : Type 0} → List (Vec ℕ A × V) → List (List ℕ × V)
-entries_in_bytes entries = map (λ entry. (vec_items entry.0, entry.1)) entries
+abbrev pub entries_in_bytes : {V : Type 0} → List (ByteString × V) → List (List ℕ × V)
+entries_in_bytes entries = map (λ entry. (key_bytes entry.0, entry.1)) entries

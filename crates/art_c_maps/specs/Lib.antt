@@ -1,5 +1,6 @@
 pub mod Batch
 pub mod Buffers
+pub mod ByteStrings
 pub mod Entries
 pub mod Limits
 pub mod Loads

@@ -4,21 +4,25 @@ ghost use Rattle.std.specs.Option.{option_map};
 ghost use Rattle.art_c_maps.specs.Batch.{ends_of, fitting, joined, toward, unfit_len};
 ghost use Rattle.art_c_maps.specs.Entries.{begun_with, entries_in_bytes, first_of, keys_of, values_of};
 
+use crate::byte_string::ByteString;
 use crate::many::next_entry;
 use art_map::Iter;
 
 // The bytes and the value of the entry that is next.
-fn next_bytes<'a>(entries: &mut Iter<'a, Vec<u8>, u64>, backward: bool) -> Option<(&'a [u8], u64)>
+fn next_bytes<'a>(
+    entries: &mut Iter<'a, ByteString, u64>,
+    backward: bool,
+) -> Option<(&'a [u8], u64)>
     ensures some { IfSome result (λ (key, value). toward backward (entries_in_bytes entries.old)
         ≡ (key.now, value) ∷ toward backward (entries_in_bytes entries.new)) }
     ensures none { IfNone result (toward backward (entries_in_bytes entries.old) ≡ []) }
 {
     let (key, value) = next_entry(entries, backward)?;
-    Some((key.as_slice(), *value))
+    Some((key.as_bytes(), *value))
 }
 
 // The number of bytes of the key that is next.
-fn next_len(mut entries: Iter<'_, Vec<u8>, u64>, backward: bool) -> Option<usize>
+fn next_len(mut entries: Iter<'_, ByteString, u64>, backward: bool) -> Option<usize>
     ensures { result ≡ option_map (λ entry. length entry.0)
         (first_of (toward backward (entries_in_bytes entries.entry))) }
 {
@@ -48,7 +52,7 @@ fn write_behind(bytes: &[u8], out: &mut [u8], at: usize)
 /// key that no longer fits. Returns how many, and where none is written the number of bytes of the first key,
 /// if there is one.
 pub(crate) fn write_batch(
-    mut entries: Iter<'_, Vec<u8>, u64>,
+    mut entries: Iter<'_, ByteString, u64>,
     backward: bool,
     keys: &mut [u8],
     ends: &mut [usize],

@@ -1,7 +1,10 @@
 //! Keys of entries that are found, written into a buffer of a caller.
 ghost use Rattle.std.specs.Prelude.{◌≡◌};
 ghost use Rattle.std.specs.Option.{option_map};
+ghost use Rattle.art_c_maps.specs.ByteStrings.{key_bytes};
 ghost use Rattle.art_c_maps.specs.Buffers.{key_fits, key_written, len_and_value, written};
+
+use crate::byte_string::ByteString;
 
 // Writes bytes into a buffer, where they fit.
 fn write(bytes: &[u8], out: &mut [u8])
@@ -15,41 +18,43 @@ fn write(bytes: &[u8], out: &mut [u8])
 
 /// Writes the key of an entry that was found, where it fits. Returns its length and the value.
 pub(crate) fn write_found(
-    found: Option<(&Vec<u8>, &u64)>,
+    found: Option<(&ByteString, &u64)>,
     key_out: &mut [u8],
 ) -> Option<(usize, u64)>
     ensures found { result ≡ option_map len_and_value (option_map
-        (λ (key, value). (key.now.items, value.now)) found.entry) }
+        (λ (key, value). (key_bytes key.now, value.now)) found.entry) }
     ensures written { key_out.new ≡ key_written (option_map
-        (λ (key, value). (key.now.items, value.now)) found.entry) key_out.old }
+        (λ (key, value). (key_bytes key.now, value.now)) found.entry) key_out.old }
 {
     let (key, value) = found?;
-    write(key.as_slice(), key_out);
-    Some((key.len(), *value))
+    let bytes = key.as_bytes();
+    write(bytes, key_out);
+    Some((bytes.len(), *value))
 }
 
 /// The same for an entry that was removed.
 pub(crate) fn write_removed(
-    removed: Option<(Vec<u8>, u64)>,
+    removed: Option<(ByteString, u64)>,
     key_out: &mut [u8],
 ) -> Option<(usize, u64)>
     ensures found { result ≡ option_map len_and_value
-        (option_map (λ (key, value). (key.items, value)) removed) }
+        (option_map (λ (key, value). (key_bytes key, value)) removed) }
     ensures written { key_out.new ≡ key_written
-        (option_map (λ (key, value). (key.items, value)) removed) key_out.old }
+        (option_map (λ (key, value). (key_bytes key, value)) removed) key_out.old }
 {
     let (key, value) = removed?;
-    write(key.as_slice(), key_out);
-    Some((key.len(), value))
+    let bytes = key.as_bytes();
+    write(bytes, key_out);
+    Some((bytes.len(), value))
 }
 
 /// Whether an entry was found whose key fits into so many bytes.
-pub(crate) fn found_fits(found: Option<(&Vec<u8>, &u64)>, room: usize) -> bool
+pub(crate) fn found_fits(found: Option<(&ByteString, &u64)>, room: usize) -> bool
     ensures { result ≡ key_fits (option_map
-        (λ (key, value). (key.now.items, value.now)) found.entry) room }
+        (λ (key, value). (key_bytes key.now, value.now)) found.entry) room }
 {
     match found {
-        Some((key, _)) => key.len() <= room,
+        Some((key, _)) => key.as_bytes().len() <= room,
         None => false,
     }
 }

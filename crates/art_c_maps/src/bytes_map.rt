@@ -12,6 +12,7 @@ ghost use Rattle.art_c_maps.specs.Refusals.{IsBytesRefused, IsNotTooLong};
 
 use crate::batch::write_batch;
 use crate::buffers::{found_fits, write_found, write_removed};
+use crate::byte_string::ByteString;
 use crate::limit::{Limit, bound_at, limits_from, limits_to};
 use crate::loads::{keys_ascend, map_of_bytes, some_too_long};
 use crate::many::{bytes_between, found_beside};
@@ -26,7 +27,7 @@ use std::ops::Bound;
 /// order of the bytes of their keys. No call has a condition. A call takes memory only where it says so.
 #[derive(Drop)]
 pub struct BytesMap {
-    entries: Map<Vec<u8>, u64>,
+    entries: Map<ByteString, u64>,
 }
 
 impl Model for BytesMap {
@@ -40,7 +41,7 @@ impl Model for BytesMap {
 
 impl BytesMap {
     // The entries at a key or after it, only after it where it is not included.
-    fn from(&self, key: &[u8], inclusive: bool) -> Iter<'_, Vec<u8>, u64>
+    fn from(&self, key: &[u8], inclusive: bool) -> Iter<'_, ByteString, u64>
         ensures { entries_in_bytes result ≡ entries_from text_order inclusive key.now self.now }
     {
         let end: Bound<Limit> = Bound::Unbounded;
@@ -48,7 +49,7 @@ impl BytesMap {
     }
 
     // The entries at a key or before it, only before it where it is not included.
-    fn up_to(&self, key: &[u8], inclusive: bool) -> Iter<'_, Vec<u8>, u64>
+    fn up_to(&self, key: &[u8], inclusive: bool) -> Iter<'_, ByteString, u64>
         ensures { entries_in_bytes result ≡ entries_to text_order inclusive key.now self.now }
     {
         let start: Bound<Limit> = Bound::Unbounded;
@@ -56,7 +57,12 @@ impl BytesMap {
     }
 
     // The entries at a key or after it, of those whose keys begin with a prefix.
-    fn from_with_prefix(&self, prefix: &[u8], key: &[u8], inclusive: bool) -> Iter<'_, Vec<u8>, u64>
+    fn from_with_prefix(
+        &self,
+        prefix: &[u8],
+        key: &[u8],
+        inclusive: bool,
+    ) -> Iter<'_, ByteString, u64>
         ensures { entries_in_bytes result ≡ entries_from text_order inclusive key.now
             (entries_with_prefix prefix.now self.now) }
     {
@@ -69,7 +75,7 @@ impl BytesMap {
         prefix: &[u8],
         key: &[u8],
         inclusive: bool,
-    ) -> Iter<'_, Vec<u8>, u64>
+    ) -> Iter<'_, ByteString, u64>
         ensures { entries_in_bytes result ≡ entries_to text_order inclusive key.now
             (entries_with_prefix prefix.now self.now) }
     {
@@ -84,6 +90,39 @@ impl BytesMap {
     {
         let there = self.entries.get_mut(key)?;
         Some(mem::replace(there, value))
+    }
+
+    // Sets the value of a key where it is there. Where it is not, it is refused for memory.
+    fn replace_only(&mut self, key: &[u8], value: u64) -> Result<Option<u64>, Refusal>
+        requires { IsNotTooLong key.now }
+        ensures replaced { IfOk result
+            (λ before. before ≡ value_of text_order self.old key.now) }
+        ensures entries { OnOk result (self.new ≡ put text_order self.old key.now value) }
+        ensures refusal_due { IfErr result (IsBytesRefused self.old key.now) }
+        ensures same_entries { OnErr result (self.new ≡ self.old) }
+    {
+        match self.replace(key, value) {
+            Some(before) => Ok(Some(before)),
+            None => Err(Refusal::OutOfMemory),
+        }
+    }
+
+    // Inserts a key that is not too long, on one way down the tree.
+    fn insert_once(&mut self, alloc: Global, key: &[u8], value: u64) -> Result<Option<u64>, Refusal>
+        requires { IsNotTooLong key.now }
+        ensures replaced { IfOk result
+            (λ before. before ≡ value_of text_order self.old key.now) }
+        ensures entries { OnOk result (self.new ≡ put text_order self.old key.now value) }
+        ensures refusal_due { IfErr result (IsBytesRefused self.old key.now) }
+        ensures same_entries { OnErr result (self.new ≡ self.old) }
+    {
+        let Ok(owned) = ByteString::new(alloc, key) else {
+            return self.replace_only(key, value);
+        };
+        match self.entries.insert(owned, value) {
+            Ok(before) => Ok(before),
+            Err(_) => Err(Refusal::OutOfMemory),
+        }
     }
 }
 
@@ -126,16 +165,12 @@ impl BytesMap {
         if is_too_long(key) {
             return Err(Refusal::KeyTooLong);
         }
-        if let Some(before) = self.replace(key, value) {
-            return Ok(Some(before));
+        if ByteString::takes_memory(key) {
+            if let Some(before) = self.replace(key, value) {
+                return Ok(Some(before));
+            }
         }
-        let Ok(owned) = Vec::from_slice(alloc, key) else {
-            return Err(Refusal::OutOfMemory);
-        };
-        match self.entries.insert(owned, value) {
-            Ok(before) => Ok(before),
-            Err(_) => Err(Refusal::OutOfMemory),
-        }
+        self.insert_once(alloc, key, value)
     }
 
     /// The value of a key, or None where there is none.

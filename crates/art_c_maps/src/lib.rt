@@ -5,7 +5,9 @@
 
 mod batch;
 mod buffers;
+mod byte_string;
 mod bytes_map;
+mod few_bytes;
 mod limit;
 mod loads;
 mod many;

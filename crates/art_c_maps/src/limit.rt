@@ -6,8 +6,10 @@ ghost use Rattle.art_bytes.specs.Text.{text_order};
 ghost use Rattle.art_keys.specs.Prefixes.{prefix_cmp};
 ghost use Rattle.art_map.specs.Ranges.{is_from, is_past};
 ghost use Rattle.art_keys.specs.declared.prefix.Edge.TheVariants.{Highest};
+ghost use Rattle.art_c_maps.specs.ByteStrings.{key_bytes};
 ghost use Rattle.art_c_maps.specs.Limits.{is_limit, limit_compare, limit_encoded, limits_agree, limits_are_bytes};
 
+use crate::byte_string::ByteString;
 use art_keys::{Edge, PrefixBound, RadixQuery};
 use std::cmp::Ordering;
 use std::ops::Bound;
@@ -30,7 +32,7 @@ fn behind(prefix: &[u8]) -> PrefixBound<&[u8]>
     }
 }
 
-impl<'a> RadixQuery<Vec<u8>> for Limit<'a> {
+impl<'a> RadixQuery<ByteString> for Limit<'a> {
     ghost encoded = { limit_encoded };
 
     ghost is_query = { is_limit };
@@ -41,31 +43,37 @@ impl<'a> RadixQuery<Vec<u8>> for Limit<'a> {
 
     ghost agrees = { limits_agree };
 
-    fn compare(&self, key: &Vec<u8>) -> Ordering {
+    fn compare(&self, key: &ByteString) -> Ordering {
         match self {
-            Limit::Key(limit) => limit.compare(key),
-            Limit::Behind(prefix) => behind(*prefix).compare(key),
+            Limit::Key(limit) => <_ as RadixQuery<ByteString>>::compare(limit, key),
+            Limit::Behind(prefix) => <_ as RadixQuery<ByteString>>::compare(&behind(*prefix), key),
         }
     }
 
     fn encoded_len(&self) -> usize {
         match self {
-            Limit::Key(limit) => limit.encoded_len(),
-            Limit::Behind(prefix) => behind(*prefix).encoded_len(),
+            Limit::Key(limit) => <_ as RadixQuery<ByteString>>::encoded_len(limit),
+            Limit::Behind(prefix) => <_ as RadixQuery<ByteString>>::encoded_len(&behind(*prefix)),
         }
     }
 
     fn encoded_byte(&self, index: usize) -> u8 {
         match self {
-            Limit::Key(limit) => limit.encoded_byte(index),
-            Limit::Behind(prefix) => behind(*prefix).encoded_byte(index),
+            Limit::Key(limit) => <_ as RadixQuery<ByteString>>::encoded_byte(limit, index),
+            Limit::Behind(prefix) => <_ as RadixQuery<ByteString>>::encoded_byte(
+                &behind(*prefix),
+                index,
+            ),
         }
     }
 
     fn encoded_head(&self, skip: u32) -> u64 {
         match self {
-            Limit::Key(limit) => limit.encoded_head(skip),
-            Limit::Behind(prefix) => behind(*prefix).encoded_head(skip),
+            Limit::Key(limit) => <_ as RadixQuery<ByteString>>::encoded_head(limit, skip),
+            Limit::Behind(prefix) => <_ as RadixQuery<ByteString>>::encoded_head(
+                &behind(*prefix),
+                skip,
+            ),
         }
     }
 }
@@ -73,9 +81,9 @@ impl<'a> RadixQuery<Vec<u8>> for Limit<'a> {
 /// A bound at a key: of a start or an end within which the key itself is where it is included.
 pub(crate) fn bound_at(key: &[u8], inclusive: bool) -> Bound<Limit<'_>>
     ensures start { (x : _) → is_from limit_compare result x
-        ≡ (if inclusive then is_le (text_order key.now x.items) else is_lt (text_order key.now x.items)) }
+        ≡ (if inclusive then is_le (text_order key.now (key_bytes x)) else is_lt (text_order key.now (key_bytes x))) }
     ensures end { (x : _) → not (is_past limit_compare result x)
-        ≡ (if inclusive then is_ge (text_order key.now x.items) else is_gt (text_order key.now x.items)) }
+        ≡ (if inclusive then is_ge (text_order key.now (key_bytes x)) else is_gt (text_order key.now (key_bytes x))) }
 {
     let limit = Limit::Key(key);
     if inclusive {
@@ -87,7 +95,7 @@ pub(crate) fn bound_at(key: &[u8], inclusive: bool) -> Bound<Limit<'_>>
 
 // A start bound before all keys that begin with a prefix.
 fn start_of(prefix: &[u8]) -> Bound<Limit<'_>>
-    ensures { (x : _) → is_from limit_compare result x ≡ is_le (text_order prefix.now x.items) }
+    ensures { (x : _) → is_from limit_compare result x ≡ is_le (text_order prefix.now (key_bytes x)) }
 {
     if prefix.is_empty() {
         Bound::Unbounded
@@ -98,7 +106,7 @@ fn start_of(prefix: &[u8]) -> Bound<Limit<'_>>
 
 // An end bound behind all keys that begin with a prefix.
 fn end_of(prefix: &[u8]) -> Bound<Limit<'_>>
-    ensures { (x : _) → is_past limit_compare result x ≡ is_lt (prefix_cmp prefix.now x.items) }
+    ensures { (x : _) → is_past limit_compare result x ≡ is_lt (prefix_cmp prefix.now (key_bytes x)) }
 {
     if prefix.is_empty() {
         Bound::Unbounded
@@ -123,8 +131,8 @@ pub(crate) fn limits_from<'a>(
     inclusive: bool,
 ) -> (Bound<Limit<'a>>, Bound<Limit<'a>>)
     ensures { (x : _) → (is_from limit_compare result.0 x && not (is_past limit_compare result.1 x))
-        ≡ (starts_with nat_eq x.items prefix.now
-        && (if inclusive then is_le (text_order from.now x.items) else is_lt (text_order from.now x.items))) }
+        ≡ (starts_with nat_eq (key_bytes x) prefix.now
+        && (if inclusive then is_le (text_order from.now (key_bytes x)) else is_lt (text_order from.now (key_bytes x)))) }
 {
     let end = end_of(prefix);
     let is_before = compare_start(prefix, from).is_gt();
@@ -142,8 +150,8 @@ pub(crate) fn limits_to<'a>(
     inclusive: bool,
 ) -> (Bound<Limit<'a>>, Bound<Limit<'a>>)
     ensures { (x : _) → (is_from limit_compare result.0 x && not (is_past limit_compare result.1 x))
-        ≡ (starts_with nat_eq x.items prefix.now
-        && (if inclusive then is_ge (text_order from.now x.items) else is_gt (text_order from.now x.items))) }
+        ≡ (starts_with nat_eq (key_bytes x) prefix.now
+        && (if inclusive then is_ge (text_order from.now (key_bytes x)) else is_gt (text_order from.now (key_bytes x)))) }
 {
     let start = start_of(prefix);
     let is_behind = compare_start(prefix, from).is_lt();

@@ -7,6 +7,7 @@ ghost use Rattle.art_c_maps.specs.Entries.{entries_in_bytes, keys_of};
 ghost use Rattle.art_c_maps.specs.Loads.{NoneTooLong, SomeTooLong, ascend};
 ghost use Rattle.art_c_maps.specs.Many.{cut};
 
+use crate::byte_string::ByteString;
 use crate::many::bytes_between;
 use crate::refusal::is_too_long;
 use art_map::Map;
@@ -87,7 +88,7 @@ pub(crate) fn map_of_bytes(
     keys: &[u8],
     ends: &[usize],
     values: &[u64],
-) -> Result<Map<Vec<u8>, u64>, AllocError>
+) -> Result<Map<ByteString, u64>, AllocError>
     requires { ascend text_order (keys_of (zip (cut keys.now ends.now) values.now)) ≡ true }
     ensures { IfOk result (λ map. entries_in_bytes map ≡ zip (cut keys.now ends.now) values.now) }
 {
@@ -96,7 +97,7 @@ pub(crate) fn map_of_bytes(
     let mut start = 0;
     for index in 0..count {
         let end = ends[index];
-        let key = Vec::from_slice(alloc, bytes_between(keys, start, end))?;
+        let key = ByteString::new(alloc, bytes_between(keys, start, end))?;
         let Ok(_) = loaded.insert(key, values[index]) else {
             return Err(AllocError);
         };
