@@ -1,4 +1,2 @@
 mod Behind
-mod BytesBox
-mod NumberBox
-mod RoutesBox
+mod HeldBox

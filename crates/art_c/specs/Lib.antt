@@ -1,6 +1,8 @@
 pub mod Handles
+pub mod Kinds
 pub mod Lending
 pub mod NetworkStatuses
+pub mod OfKinds
 pub mod RouteStatuses
 pub mod Statuses
 pub mod Version

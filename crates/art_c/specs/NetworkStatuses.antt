@@ -35,7 +35,7 @@ pub record IsDifferenceWritten (old new : List (Block × ℕ)) (buffer : List �
   pub before_is : before ≡ found_or value_before before_old
   pub after_is : after ≡ found_or value_after after_old
 
--- its address has more bytes than the buffer, so many, and so is not written
+-- its address has more bytes than the buffer, so many, and so is not written: the buffer is unchanged
 pub record IsTooLong (old new : List (Block × ℕ)) (buffer address : List ℕ) (width : ℕ) : Type 0 where
   pub network : Block
   pub value_before : Option ℕ

@@ -67,15 +67,11 @@ pub extern "C" fn art_bytes_new(alloc: Global, map: &mut BytesHandle) -> u32
     ensures refused { (result ≡ ART_HAS_MAP) ⊎ (result ≡ ART_NO_MEMORY) →
         map.new.held ≡ map.old.held }
 {
-    if let Some(held) = map.take(alloc) {
-        map.hold(held);
+    if let Some(_) = map.lent_mut() {
         return HAS_MAP;
     }
-    match Box::new(alloc, BytesMap::new(alloc)) {
-        Ok(made) => {
-            map.hold(made);
-            NONE
-        }
+    match map.hold(alloc, BytesMap::new(alloc)) {
+        Ok(_) => NONE,
         Err(_) => NO_MEMORY,
     }
 }
@@ -85,7 +81,7 @@ pub extern "C" fn art_bytes_new(alloc: Global, map: &mut BytesHandle) -> u32
 pub extern "C" fn art_bytes_free(alloc: Global, map: &mut BytesHandle)
     ensures { map.new.held ≡ None }
 {
-    drop(map.take(alloc));
+    map.free(alloc);
 }
 
 /// The number of entries, 0 where there is no map.

@@ -1,27 +1,37 @@
 //! A map by bytes behind a handle of C.
-ghost use Rattle.std.specs.Prelude.{◌≡◌, None, Option, Some};
+ghost use Rattle.std.specs.Prelude.{◌≡◌, IsErr, IsOk, None, Some};
 ghost use Rattle.std.specs.Option.{option_map};
-ghost use Rattle.art_c.specs.Handles.{coded_behind, owns_behind, bytes_row};
 
-use crate::parts::Parts;
+use crate::handle::Handle;
+use crate::held::Held;
 use art_c_maps::BytesMap;
-use std::alloc::Global;
+use std::alloc::{AllocError, Global};
 use std::marker::{Model, Send};
-use std::mem;
-use std::ptr::null_mut;
 
 /// `art_bytes_map` of the header: the address of a boxed map, or null where the handle holds none. For
 /// contracts the entries of that map, if there is one.
 #[repr(C)]
 #[derive(Drop)]
 pub struct BytesHandle {
-    ptr: *mut u8,
-    alloc: Global,
-    pub ghost held: { Option bytes_row.Denot } by { coded_behind bytes_row },
+    inner: Handle,
 }
 
 impl Model for BytesHandle {
-    ghost also_owns = { λ handle. owns_behind bytes_row handle.alloc handle.ptr handle.held };
+    ghost use mathlib.Core.Path.{ap};
+    ghost use Rattle.art_c.specs.declared.held.Held.TheVariants.{Bytes};
+    ghost use Rattle.art_c.specs.Kinds.{AreOfKind, bytes_of, bytes_row};
+    ghost use Rattle.art_c.specs.OfKinds.{HandleOf, handle_back, handle_from, handle_of};
+
+    ghost Value = { HandleOf bytes_row.Denot };
+
+    ghost view = { λ handle. handle_of Bytes bytes_of handle.inner };
+
+    ghost invariant = { λ handle. AreOfKind Bytes bytes_of handle.inner.held };
+
+    ghost inverse = { λ value. record { inner = handle_from Bytes bytes_of value } };
+
+    ghost inverse_ok = { λ handle of_kind. ap (λ inner. record { inner = inner })
+        (handle_back Bytes bytes_of handle.inner of_kind) };
 }
 
 // Its map may go to another thread with it.
@@ -31,66 +41,28 @@ impl BytesHandle {
     ghost use Rattle.std.specs.Borrow.{sem};
     ghost use Rattle.art_c.specs.Lending.{LendsBytes};
 
-    /// A handle that holds no map.
-    pub(crate) fn empty(alloc: Global) -> BytesHandle
-        ensures { result.held ≡ None }
-    {
-        BytesHandle {
-            ptr: null_mut(),
-            alloc,
-        }
-    }
-
-    fn of_parts(parts: Parts<BytesMap, Global>) -> BytesHandle
-        ensures { result.held ≡ Some parts.value }
-    {
-        let Parts { ptr, alloc } = parts;
-        BytesHandle {
-            ptr: ptr as *mut u8,
-            alloc,
-        }
-    }
-
-    fn into_parts(self) -> Option<Parts<BytesMap, Global>>
-        ensures { option_map (λ parts. parts.value) result ≡ self.held }
-    {
-        let BytesHandle { ptr, alloc } = self;
-        if ptr.is_null() {
-            None
-        } else {
-            Some(Parts {
-                ptr: ptr as *mut BytesMap,
-                alloc,
-            })
-        }
-    }
-
     /// The map behind the handle, where it holds one. The handle itself is not written.
     pub(crate) fn lent_mut(&mut self) -> Option<&mut BytesMap>
         ensures* writes_back { sem 𝓛 (LendsBytes self.entry result) }
         ensures map { option_map (λ map. map.now) result ≡ self.old.held }
     {
-        let ptr = self.ptr;
-        if ptr.is_null() {
-            None
-        } else {
-            Some(unsafe { &mut *(ptr as *mut BytesMap) })
-        }
+        self.inner.lent_mut()?.bytes_mut()
     }
 
-    /// Takes the map out of the handle, where it holds one.
-    pub(crate) fn take(&mut self, alloc: Global) -> Option<Box<BytesMap>>
-        ensures map { option_map (λ map. map.value) result ≡ self.old.held }
+    /// Gives the handle this map, boxed. Where there is no memory for the box, the handle is as before.
+    pub(crate) fn hold(&mut self, alloc: Global, map: BytesMap) -> Result<(), AllocError>
+        ensures held { IsOk result → self.new.held ≡ Some map }
+        ensures refused { IsErr result → self.new.held ≡ self.old.held }
+    {
+        let boxed = Box::new(alloc, Held::Bytes(map))?;
+        self.inner.hold(boxed);
+        Ok(())
+    }
+
+    /// Frees the map, where the handle holds one.
+    pub(crate) fn free(&mut self, alloc: Global)
         ensures none_left { self.new.held ≡ None }
     {
-        let parts = mem::replace(self, BytesHandle::empty(alloc)).into_parts()?;
-        Some(parts.into_box())
-    }
-
-    /// Gives the handle this map.
-    pub(crate) fn hold(&mut self, map: Box<BytesMap>)
-        ensures { self.new.held ≡ Some map.value }
-    {
-        *self = BytesHandle::of_parts(Parts::of(map));
+        drop(self.inner.take(alloc));
     }
 }

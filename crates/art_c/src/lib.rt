@@ -7,6 +7,8 @@
 mod bytes;
 mod bytes_handle;
 mod bytes_view;
+mod handle;
+mod held;
 mod loads;
 mod networks;
 mod number_handle;
@@ -18,3 +20,4 @@ mod routes_handle;
 mod routes_view;
 mod statuses;
 mod version;
+mod view;

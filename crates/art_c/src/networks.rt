@@ -75,7 +75,8 @@ fn write_change(found: Difference, change: &mut u8, before: &mut u64, after: &mu
 }
 
 /// Finds the first network at one or after it, in the order of networks, of which two tables differ, and writes out the
-/// change by which the first becomes as the second, and the value of each where it has one.
+/// change by which the first becomes as the second, and the value of each where it has one. Where its address does not
+/// fit, only its width is written: the buffer for it is unchanged, and so is all else.
 #[unsafe(no_mangle)]
 pub extern "C" fn art_routes_next_difference(
     table: &mut RoutesView,

@@ -57,15 +57,11 @@ pub extern "C" fn art_routes_new(alloc: Global, table: &mut RoutesHandle) -> u32
     ensures refused { (result ≡ ART_HAS_MAP) ⊎ (result ≡ ART_NO_MEMORY) →
         table.new.held ≡ table.old.held }
 {
-    if let Some(held) = table.take(alloc) {
-        table.hold(held);
+    if let Some(_) = table.lent_mut() {
         return HAS_MAP;
     }
-    match Box::new(alloc, NumberRoutes::new(alloc)) {
-        Ok(made) => {
-            table.hold(made);
-            NONE
-        }
+    match table.hold(alloc, NumberRoutes::new(alloc)) {
+        Ok(_) => NONE,
         Err(_) => NO_MEMORY,
     }
 }
@@ -75,7 +71,7 @@ pub extern "C" fn art_routes_new(alloc: Global, table: &mut RoutesHandle) -> u32
 pub extern "C" fn art_routes_free(alloc: Global, table: &mut RoutesHandle)
     ensures { table.new.held ≡ None }
 {
-    drop(table.take(alloc));
+    table.free(alloc);
 }
 
 /// The number of routes, 0 where there is no table.

@@ -1,27 +1,37 @@
 //! A route table behind a handle of C.
-ghost use Rattle.std.specs.Prelude.{◌≡◌, None, Option, Some};
+ghost use Rattle.std.specs.Prelude.{◌≡◌, IsErr, IsOk, None, Some};
 ghost use Rattle.std.specs.Option.{option_map};
-ghost use Rattle.art_c.specs.Handles.{coded_behind, owns_behind, routes_row};
 
-use crate::parts::Parts;
+use crate::handle::Handle;
+use crate::held::Held;
 use art_c_routes::NumberRoutes;
-use std::alloc::Global;
+use std::alloc::{AllocError, Global};
 use std::marker::{Model, Send};
-use std::mem;
-use std::ptr::null_mut;
 
 /// `art_routes_map` of the header: the address of a boxed table, or null where the handle holds none. For
 /// contracts the routes of that table, if there is one.
 #[repr(C)]
 #[derive(Drop)]
 pub struct RoutesHandle {
-    ptr: *mut u8,
-    alloc: Global,
-    pub ghost held: { Option routes_row.Denot } by { coded_behind routes_row },
+    inner: Handle,
 }
 
 impl Model for RoutesHandle {
-    ghost also_owns = { λ handle. owns_behind routes_row handle.alloc handle.ptr handle.held };
+    ghost use mathlib.Core.Path.{ap};
+    ghost use Rattle.art_c.specs.declared.held.Held.TheVariants.{Routes};
+    ghost use Rattle.art_c.specs.Kinds.{AreOfKind, routes_of, routes_row};
+    ghost use Rattle.art_c.specs.OfKinds.{HandleOf, handle_back, handle_from, handle_of};
+
+    ghost Value = { HandleOf routes_row.Denot };
+
+    ghost view = { λ handle. handle_of Routes routes_of handle.inner };
+
+    ghost invariant = { λ handle. AreOfKind Routes routes_of handle.inner.held };
+
+    ghost inverse = { λ value. record { inner = handle_from Routes routes_of value } };
+
+    ghost inverse_ok = { λ handle of_kind. ap (λ inner. record { inner = inner })
+        (handle_back Routes routes_of handle.inner of_kind) };
 }
 
 // Its table may go to another thread with it.
@@ -31,66 +41,28 @@ impl RoutesHandle {
     ghost use Rattle.std.specs.Borrow.{sem};
     ghost use Rattle.art_c.specs.Lending.{LendsRoutes};
 
-    /// A handle that holds no table.
-    pub(crate) fn empty(alloc: Global) -> RoutesHandle
-        ensures { result.held ≡ None }
-    {
-        RoutesHandle {
-            ptr: null_mut(),
-            alloc,
-        }
-    }
-
-    fn of_parts(parts: Parts<NumberRoutes, Global>) -> RoutesHandle
-        ensures { result.held ≡ Some parts.value }
-    {
-        let Parts { ptr, alloc } = parts;
-        RoutesHandle {
-            ptr: ptr as *mut u8,
-            alloc,
-        }
-    }
-
-    fn into_parts(self) -> Option<Parts<NumberRoutes, Global>>
-        ensures { option_map (λ parts. parts.value) result ≡ self.held }
-    {
-        let RoutesHandle { ptr, alloc } = self;
-        if ptr.is_null() {
-            None
-        } else {
-            Some(Parts {
-                ptr: ptr as *mut NumberRoutes,
-                alloc,
-            })
-        }
-    }
-
     /// The table behind the handle, where it holds one. The handle itself is not written.
     pub(crate) fn lent_mut(&mut self) -> Option<&mut NumberRoutes>
         ensures* writes_back { sem 𝓛 (LendsRoutes self.entry result) }
         ensures table { option_map (λ table. table.now) result ≡ self.old.held }
     {
-        let ptr = self.ptr;
-        if ptr.is_null() {
-            None
-        } else {
-            Some(unsafe { &mut *(ptr as *mut NumberRoutes) })
-        }
+        self.inner.lent_mut()?.routes_mut()
     }
 
-    /// Takes the table out of the handle, where it holds one.
-    pub(crate) fn take(&mut self, alloc: Global) -> Option<Box<NumberRoutes>>
-        ensures table { option_map (λ table. table.value) result ≡ self.old.held }
+    /// Gives the handle this table, boxed. Where there is no memory for the box, the handle is as before.
+    pub(crate) fn hold(&mut self, alloc: Global, table: NumberRoutes) -> Result<(), AllocError>
+        ensures held { IsOk result → self.new.held ≡ Some table }
+        ensures refused { IsErr result → self.new.held ≡ self.old.held }
+    {
+        let boxed = Box::new(alloc, Held::Routes(table))?;
+        self.inner.hold(boxed);
+        Ok(())
+    }
+
+    /// Frees the table, where the handle holds one.
+    pub(crate) fn free(&mut self, alloc: Global)
         ensures none_left { self.new.held ≡ None }
     {
-        let parts = mem::replace(self, RoutesHandle::empty(alloc)).into_parts()?;
-        Some(parts.into_box())
-    }
-
-    /// Gives the handle this table.
-    pub(crate) fn hold(&mut self, table: Box<NumberRoutes>)
-        ensures { self.new.held ≡ Some table.value }
-    {
-        *self = RoutesHandle::of_parts(Parts::of(table));
+        drop(self.inner.take(alloc));
     }
 }

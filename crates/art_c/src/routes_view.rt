@@ -1,10 +1,8 @@
 //! A look at a route table, for C.
-ghost use Rattle.std.specs.Prelude.{◌≡◌, Option};
+ghost use Rattle.std.specs.Prelude.{◌≡◌};
 ghost use Rattle.std.specs.Option.{option_map};
-ghost use Rattle.art_c.specs.Handles.{coded_behind, routes_row};
-ghost use Rattle.art_c.specs.Views.{coded_life, coded_share, sees};
-ghost use base.Fml.{Lft, Share as LifeShare};
 
+use crate::view::View;
 use art_c_routes::NumberRoutes;
 use std::marker::{Model, Send};
 
@@ -14,14 +12,27 @@ use std::marker::{Model, Send};
 #[repr(C)]
 #[derive(Drop)]
 pub struct RoutesView {
-    ptr: *const u8,
-    pub ghost seen: { Option routes_row.Denot } by { coded_behind routes_row },
-    ghost life: { Lft } by { coded_life },
-    ghost share: { LifeShare } by { coded_share },
+    inner: View,
 }
 
 impl Model for RoutesView {
-    ghost also_owns = { λ view. sees routes_row view.life view.share view.ptr view.seen };
+    ghost use mathlib.Core.Path.{ap};
+    ghost use Rattle.art_c.specs.declared.held.Held.TheVariants.{Routes};
+    ghost use Rattle.art_c.specs.Kinds.{AreOfKind, routes_of, routes_row};
+    ghost use Rattle.art_c.specs.OfKinds.{ViewOf, coded_view, view_back, view_from, view_of};
+
+    ghost Value = { ViewOf routes_row.Denot };
+
+    ghost coded = { coded_view routes_row.coded };
+
+    ghost view = { λ view. view_of Routes routes_of view.inner };
+
+    ghost invariant = { λ view. AreOfKind Routes routes_of view.inner.seen };
+
+    ghost inverse = { λ value. record { inner = view_from Routes routes_of value } };
+
+    ghost inverse_ok = { λ view of_kind. ap (λ inner. record { inner = inner })
+        (view_back Routes routes_of view.inner of_kind) };
 }
 
 // Its table may go to another thread with it.
@@ -36,11 +47,6 @@ impl RoutesView {
         ensures* same { sem 𝓛 (RoutesEndAsTheyWere self.entry) }
         ensures table { option_map (λ table. table.now) result ≡ self.old.seen }
     {
-        let ptr = self.ptr;
-        if ptr.is_null() {
-            None
-        } else {
-            Some(unsafe { &*(ptr as *const NumberRoutes) })
-        }
+        self.inner.lent()?.routes()
     }
 }
