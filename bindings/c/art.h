@@ -53,6 +53,10 @@ typedef struct { void *opaque; } art_bytes_map;
 typedef struct { void *opaque; } art_u64_map;
 typedef struct { void *opaque; } art_routes_map;
 
+/* Entries as they are lent: by numbers as they lie in the map, by bytes with the address of their key. */
+typedef struct { uint64_t key, value; } art_u64_entry;
+typedef struct { const uint8_t *key; size_t key_len; uint64_t value; } art_bytes_entry;
+
 /* ART_VERSION of the header that the library was built with. */
 uint32_t art_version(void);
 
@@ -86,6 +90,11 @@ uint32_t art_bytes_previous_many(const art_bytes_map *map, const uint8_t *prefix
                                  const uint8_t *from, size_t len, bool inclusive,
                                  uint8_t *keys, size_t capacity, size_t *ends, size_t ends_len,
                                  uint64_t *values, size_t values_len, size_t *count, size_t *key_len);
+/* The next entries at or after a key, of those whose keys begin with a prefix (of no bytes: of all), as many as `entries` holds:
+   how many were written. Keys are lent: they lie in the map, and may be read until the next call that takes it without
+   `const`. */
+size_t art_bytes_page(const art_bytes_map *map, const uint8_t *prefix, size_t prefix_len, const uint8_t *from, size_t len,
+                      bool inclusive, art_bytes_entry *entries, size_t entries_len);
 /* Looks up many keys, which lie as next_many writes them: the key `i` ends before keys[ends[i]], and begins where the one
    before it ends. As many as the shortest of `ends`, `found` and `values` holds, how many `count` says. found[i] is 1, and
    values[i] the value, where there is an entry; else found[i] is 0, and values[i] as it was. ART_NONE, but for ART_NO_MAP. */
@@ -129,6 +138,10 @@ size_t art_u64_next_many(const art_u64_map *map, uint64_t from, bool inclusive,
 /* The same of the entries at or before a key, from the last one down. */
 size_t art_u64_previous_many(const art_u64_map *map, uint64_t from, bool inclusive,
                              uint64_t *keys, size_t keys_len, uint64_t *values, size_t values_len);
+/* The entries at or after a key as they lie in the map, to the end of their page: writes out where they begin, and returns
+   how many they are, 0 only where none follows. They are lent: they may be read until the next call that takes the map without
+   `const`. The last key of them, not included, leads to the next ones. */
+size_t art_u64_page(const art_u64_map *map, uint64_t from, bool inclusive, const art_u64_entry **entries);
 /* Looks up many keys, as many as the shortest of the arrays holds: how many. found[i] is 1, and values[i] the value, where
    keys[i] has an entry; else found[i] is 0, and values[i] as it was. */
 size_t art_u64_get_many(const art_u64_map *map, const uint64_t *keys, size_t keys_len,
@@ -266,6 +279,13 @@ static inline uint32_t art_bytes_own_previous_many(const art_bytes_map *map, con
                                    values, values_len, count, key_len);
 }
 #define art_bytes_previous_many art_bytes_own_previous_many
+static inline size_t art_bytes_own_page(const art_bytes_map *map, const uint8_t *prefix, size_t prefix_len,
+                                        const uint8_t *from, size_t len, bool inclusive, art_bytes_entry *entries,
+                                        size_t entries_len) {
+    art_bytes_map own = *map;
+    return art_bytes_page(&own, prefix, prefix_len, from, len, inclusive, entries, entries_len);
+}
+#define art_bytes_page art_bytes_own_page
 static inline uint32_t art_bytes_own_get_many(const art_bytes_map *map, const uint8_t *keys, size_t keys_len,
                                               const size_t *ends, size_t ends_len, uint8_t *found, size_t found_len,
                                               uint64_t *values, size_t values_len, size_t *count) {
@@ -334,6 +354,12 @@ static inline size_t art_u64_own_previous_many(const art_u64_map *map, uint64_t 
     return art_u64_previous_many(&own, from, inclusive, keys, keys_len, values, values_len);
 }
 #define art_u64_previous_many art_u64_own_previous_many
+static inline size_t art_u64_own_page(const art_u64_map *map, uint64_t from, bool inclusive,
+                                      const art_u64_entry **entries) {
+    art_u64_map own = *map;
+    return art_u64_page(&own, from, inclusive, entries);
+}
+#define art_u64_page art_u64_own_page
 static inline size_t art_u64_own_get_many(const art_u64_map *map, const uint64_t *keys, size_t keys_len,
                                           uint8_t *found, size_t found_len, uint64_t *values, size_t values_len) {
     art_u64_map own = *map;

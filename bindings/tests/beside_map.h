@@ -122,6 +122,38 @@ template <class Source> class BytesBeside {
         CHECK(std::all_of(values.begin() + written, values.end(), [](uint64_t it) { return it == NO_VALUE; }));
     }
 
+    // The next entries, of which the keys are lent, as many as the places are.
+    void page(const std::string &prefix, const std::string &key, bool inclusive) {
+        const uint8_t none = 0;
+        const art_bytes_entry unwritten = {&none, NO_LEN, NO_VALUE};
+        std::vector<art_bytes_entry> places(source.below(9), unwritten);
+        size_t count = art_bytes_page(&map, bytes(prefix), prefix.size(), bytes(key), key.size(), inclusive, places.data(), places.size());
+        size_t written = 0;
+        for (Entry at = after_with(prefix, key, inclusive); at != model.end() && begins(at->first, prefix) && written < places.size(); ++at) {
+            const art_bytes_entry &it = places[written++];
+            CHECK(it.key_len == at->first.size() && it.value == at->second && std::equal(it.key, it.key + it.key_len, bytes(at->first)));
+        }
+        CHECK(count == written);
+        for (; written < places.size(); written++)
+            CHECK(places[written].key == &none && places[written].key_len == NO_LEN && places[written].value == NO_VALUE);
+    }
+
+    // All entries, lent a few at a time.
+    void walk_by_pages() {
+        art_bytes_entry places[5];
+        std::string from;
+        bool inclusive = true;
+        Entry at = model.begin();
+        while (size_t count = art_bytes_page(&map, nullptr, 0, bytes(from), from.size(), inclusive, places, 5)) {
+            for (size_t i = 0; i < count; i++, ++at)
+                CHECK(at != model.end() && places[i].key_len == at->first.size() && places[i].value == at->second &&
+                      std::equal(places[i].key, places[i].key + places[i].key_len, bytes(at->first)));
+            from = std::prev(at)->first;
+            inclusive = false;
+        }
+        CHECK(at == model.end());
+    }
+
     // Some keys, one behind another; a few ends are anywhere.
     std::vector<std::string> some_keys(std::string &all, std::vector<size_t> &ends, uint64_t most = 9) {
         for (uint64_t more = source.below(most); more > 0; more--) {
@@ -230,6 +262,7 @@ template <class Source> class BytesBeside {
         }
         CHECK(art_bytes_next(&map, bytes(key), key.size(), inclusive, nullptr, 0, &len, &value) == ART_NONE);
         walk_back();
+        walk_by_pages();
     }
 
     // Back again, where the key that is looked from lies in the buffer that the next one is written to.
@@ -253,7 +286,7 @@ template <class Source> class BytesBeside {
         len = NO_LEN;
         value = NO_VALUE;
         Entry at = model.find(key);
-        switch (source.below(19)) {
+        switch (source.below(20)) {
         case 16:
             get_many();
             break;
@@ -262,6 +295,9 @@ template <class Source> class BytesBeside {
             break;
         case 18:
             load();
+            break;
+        case 19:
+            page(source.below(2) == 0 ? "" : key.substr(0, source.below(3)), source.below(2) == 0 ? key : source.key(), choice);
             break;
         case 0: case 1: case 2: case 3: case 4:
             found_value(at, art_bytes_insert(&map, bytes(key), key.size(), put, &value));
@@ -376,6 +412,29 @@ template <class Source> class NumbersBeside {
         CHECK(std::all_of(values.begin() + written, values.end(), untouched));
     }
 
+    // The next entries, as they lie in the map.
+    void page(uint64_t key, bool inclusive) {
+        const art_u64_entry *entries = nullptr;
+        size_t count = art_u64_page(&map, key, inclusive, &entries);
+        Entry at = after(key, inclusive);
+        CHECK((count == 0) == (at == model.end()));
+        for (size_t i = 0; i < count; i++, ++at) CHECK(at != model.end() && entries[i].key == at->first && entries[i].value == at->second);
+    }
+
+    // All entries, one page after another.
+    void walk_by_pages() {
+        const art_u64_entry *entries = nullptr;
+        Entry at = model.begin();
+        bool inclusive = true;
+        uint64_t from = 0;
+        while (size_t count = art_u64_page(&map, from, inclusive, &entries)) {
+            for (size_t i = 0; i < count; i++, ++at) CHECK(at != model.end() && entries[i].key == at->first && entries[i].value == at->second);
+            from = entries[count - 1].key;
+            inclusive = false;
+        }
+        CHECK(at == model.end());
+    }
+
     // Some keys, of which about half are there.
     std::vector<uint64_t> some_keys() {
         std::vector<uint64_t> keys(source.below(9));
@@ -460,6 +519,7 @@ template <class Source> class NumbersBeside {
             inclusive = false;
         }
         CHECK(it == model.end());
+        walk_by_pages();
     }
 
     void call() {
@@ -469,7 +529,7 @@ template <class Source> class NumbersBeside {
         // Half of the keys are there.
         if (source.below(2) == 0 && model.lower_bound(key) != model.end()) key = model.lower_bound(key)->first;
         Entry at = model.find(key);
-        switch (source.below(19)) {
+        switch (source.below(20)) {
         case 16:
             get_many();
             break;
@@ -478,6 +538,9 @@ template <class Source> class NumbersBeside {
             break;
         case 18:
             load();
+            break;
+        case 19:
+            page(key, choice);
             break;
         case 0: case 1: case 2: case 3: case 4: case 5:
             found_value(at, art_u64_insert(&map, key, put, &value));

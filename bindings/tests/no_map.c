@@ -20,6 +20,8 @@ static int without_bytes(art_bytes_map *map) {
     CHECK(art_bytes_next_with_prefix(map, key, 1, key, 3, true, out, 4, &len, &value) == ART_NO_MAP);
     size_t ends[2] = {6, 6}, count = 8;
     CHECK(art_bytes_next_many(map, key, 1, key, 3, true, out, 4, ends, 2, &value, 1, &count, &len) == ART_NO_MAP);
+    art_bytes_entry entries[2];
+    CHECK(art_bytes_page(map, key, 1, key, 3, true, entries, 2) == 0);
     CHECK(art_bytes_previous_many(map, key, 1, key, 3, true, out, 4, ends, 2, &value, 1, &count, &len) == ART_NO_MAP);
     CHECK(art_bytes_get_many(map, key, 3, ends, 1, out, 1, &value, 1, &count) == ART_NO_MAP);
     CHECK(art_bytes_insert_many(map, key, 3, ends, 1, &value, 1, &count) == ART_NO_MAP);
@@ -50,6 +52,8 @@ static int without_numbers(art_u64_map *map) {
     CHECK(art_u64_pop_last(map, &key, &value) == ART_NO_MAP);
     CHECK(art_u64_next_many(map, 0, true, keys, 2, values, 2) == 0);
     CHECK(art_u64_previous_many(map, 9, true, keys, 2, values, 2) == 0);
+    const art_u64_entry *entries;
+    CHECK(art_u64_page(map, 0, true, &entries) == 0);
     uint8_t found[2] = {3, 3};
     size_t done = 6;
     CHECK(art_u64_get_many(map, keys, 2, found, 2, values, 2) == 0);

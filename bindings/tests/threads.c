@@ -46,6 +46,9 @@ static void looks(const art_bytes_map *bytes, const art_u64_map *u64, unsigned n
     size_t ends[4], count = 0;
     CHECK(art_bytes_next_many(bytes, key, 5, key, len, true, found, LONG, ends, 4, values, 4, &count, &found_len) == ART_SOME);
     CHECK(count >= 1 && ends[0] == len && memcmp(found, key, len) == 0 && values[0] == n);
+    art_bytes_entry entries[2];
+    CHECK(art_bytes_page(bytes, key, 5, key, len, true, entries, 2) >= 1 && entries[0].value == n);
+    CHECK(entries[0].key_len == len && memcmp(entries[0].key, key, len) == 0);
     CHECK(art_bytes_count_prefix(bytes, key, 9) == 1);
     CHECK(art_bytes_first(bytes, found, LONG, &found_len, &value) == ART_SOME && value == 0 && found_len == LONG);
     CHECK(art_bytes_len(bytes) >= ENTRIES);
@@ -54,6 +57,8 @@ static void looks(const art_bytes_map *bytes, const art_u64_map *u64, unsigned n
     CHECK(art_u64_previous(u64, n, true, &number, &value) == ART_SOME && number == n);
     CHECK(art_u64_first(u64, &number, &value) == ART_SOME && number == 0);
     CHECK(art_u64_next_many(u64, n, true, keys, 8, values, 8) >= 1 && keys[0] == n && values[0] == n);
+    const art_u64_entry *run;
+    CHECK(art_u64_page(u64, n, true, &run) >= 1 && run->key == n && run->value == n);
     CHECK(art_u64_previous_many(u64, n, true, keys, 8, values, 8) >= 1 && keys[0] == n && values[0] == n);
     CHECK(art_u64_len(u64) >= ENTRIES);
 }

@@ -172,7 +172,8 @@ class Explorer:
 
     def _use(self, use, scope):
         self.closure.members.update(use.members)
-        if use.bound or use.word in SYNTAX:
+        # A word like `'a` is a lifetime of the source.
+        if use.bound or use.word in SYNTAX or use.word.startswith("'"):
             return
         if self._is_parameter(use, scope):
             return

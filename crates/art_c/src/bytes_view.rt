@@ -1,9 +1,13 @@
 //! A look at a map by bytes, for C.
-ghost use Rattle.std.specs.Prelude.{◌≡◌};
+ghost use Rattle.std.specs.Prelude.{◌≡◌, length};
 ghost use Rattle.std.specs.Option.{option_map};
+ghost use Rattle.art_bytes.specs.Text.{text_order};
+ghost use Rattle.art_c.specs.Handles.{entries_of};
+ghost use Rattle.art_c_maps.specs.Entries.{entries_with_prefix, next_entries};
+ghost use Rattle.art_c_maps.specs.Lent.{LendsNext};
 
 use crate::view::View;
-use art_c_maps::BytesMap;
+use art_c_maps::{BytesEntry, BytesMap};
 use std::marker::{Model, Send};
 
 /// A copy of an `art_bytes_map` of the header, by which its map is only read: the address of the map, or
@@ -48,5 +52,21 @@ impl BytesView {
         ensures map { option_map (λ map. map.now) result ≡ self.old.seen }
     {
         self.inner.lent()?.bytes()
+    }
+
+    /// Lends the first entries at a key or after it, of those with a prefix, as many as there are places, for
+    /// as long as C lends the map. Returns how many.
+    pub(crate) fn lend_next(
+        &mut self,
+        prefix: &[u8],
+        from: &[u8],
+        inclusive: bool,
+        out: &mut [BytesEntry],
+    ) -> usize
+        ensures { LendsNext self.old.life (next_entries text_order (length out.old) inclusive from.now
+            (entries_with_prefix prefix.now (entries_of self.old.seen))) out.old out.new result
+            × (self.new ≡ self.old) }
+    {
+        self.inner.lend_next(prefix, from, inclusive, out)
     }
 }

@@ -1,8 +1,13 @@
 //! What may lie behind a handle of C: a map or a table of one of the kinds.
-ghost use Rattle.std.specs.Prelude.{◌≡◌};
+ghost use Rattle.std.specs.Prelude.{◌≡◌, length};
 ghost use Rattle.std.specs.Option.{option_map};
+ghost use Rattle.std.specs.Ordering.{nat_cmp};
+ghost use Rattle.art_bytes.specs.Text.{text_order};
+ghost use Rattle.art_c.specs.Handles.{entries_of};
+ghost use Rattle.art_c_maps.specs.Entries.{entries_from, entries_with_prefix, next_entries};
+ghost use Rattle.art_c_maps.specs.Lent.{LendsNext, LendsRun};
 
-use art_c_maps::{BytesMap, NumberMap};
+use art_c_maps::{BytesEntry, BytesMap, Loan, NumberMap, NumberRun};
 use art_c_routes::NumberRoutes;
 
 /// A map or a table of one of the kinds.
@@ -85,6 +90,42 @@ impl Held {
             Some(table)
         } else {
             None
+        }
+    }
+
+    /// Lends the entries of a map by numbers at a key or after it, to the end of their page: none, if it is no
+    /// such map.
+    pub(crate) fn lend_run<'a>(
+        &'a self,
+        loan: Loan<'a>,
+        from: u64,
+        inclusive: bool,
+    ) -> (NumberRun, usize)
+        ensures { LendsRun loan.entry.life
+            (entries_from nat_cmp inclusive from (entries_of (numbers_of self.now))) result.0 result.1 }
+    {
+        match self.numbers() {
+            Some(map) => map.lend_run(loan, from, inclusive),
+            None => (NumberRun::of(&[], loan), 0),
+        }
+    }
+
+    /// Lends the first entries of a map by bytes at a key or after it, of those with a prefix, as many as there
+    /// are places. Returns how many: none, if it is no such map.
+    pub(crate) fn lend_next<'a>(
+        &'a self,
+        loan: Loan<'a>,
+        prefix: &[u8],
+        from: &[u8],
+        inclusive: bool,
+        out: &mut [BytesEntry],
+    ) -> usize
+        ensures { LendsNext loan.entry.life (next_entries text_order (length out.old) inclusive from.now
+            (entries_with_prefix prefix.now (entries_of (bytes_of self.now)))) out.old out.new result }
+    {
+        match self.bytes() {
+            Some(map) => map.lend_next(loan, prefix, from, inclusive, out),
+            None => 0,
         }
     }
 }

@@ -14,6 +14,7 @@ mod networks;
 mod number_handle;
 mod number_view;
 mod numbers;
+mod pages;
 mod parts;
 mod routes;
 mod routes_handle;

@@ -1,9 +1,13 @@
 //! A look at a map by numbers, for C.
 ghost use Rattle.std.specs.Prelude.{◌≡◌};
 ghost use Rattle.std.specs.Option.{option_map};
+ghost use Rattle.std.specs.Ordering.{nat_cmp};
+ghost use Rattle.art_c.specs.Handles.{entries_of};
+ghost use Rattle.art_c_maps.specs.Entries.{entries_from};
+ghost use Rattle.art_c_maps.specs.Lent.{LendsRun};
 
 use crate::view::View;
-use art_c_maps::NumberMap;
+use art_c_maps::{NumberMap, NumberRun};
 use std::marker::{Model, Send};
 
 /// A copy of an `art_u64_map` of the header, by which its map is only read: the address of the map, or
@@ -48,5 +52,13 @@ impl NumberView {
         ensures map { option_map (λ map. map.now) result ≡ self.old.seen }
     {
         self.inner.lent()?.numbers()
+    }
+
+    /// Lends the entries at a key or after it, to the end of their page, for as long as C lends the map.
+    pub(crate) fn lend_run(&mut self, from: u64, inclusive: bool) -> (NumberRun, usize)
+        ensures { LendsRun self.old.life (entries_from nat_cmp inclusive from (entries_of self.old.seen))
+            result.0 result.1 × (self.new ≡ self.old) }
+    {
+        self.inner.lend_run(from, inclusive)
     }
 }

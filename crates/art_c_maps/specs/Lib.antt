@@ -2,7 +2,9 @@ pub mod Batch
 pub mod Buffers
 pub mod ByteStrings
 pub mod Entries
+pub mod Lent
 pub mod Limits
 pub mod Loads
+pub mod Loans
 pub mod Many
 pub mod Refusals

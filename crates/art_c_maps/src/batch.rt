@@ -8,8 +8,8 @@ use crate::byte_string::ByteString;
 use crate::many::next_entry;
 use art_map::Iter;
 
-// The bytes and the value of the entry that is next.
-fn next_bytes<'a>(
+/// The bytes and the value of the entry that is next.
+pub(crate) fn next_bytes<'a>(
     entries: &mut Iter<'a, ByteString, u64>,
     backward: bool,
 ) -> Option<(&'a [u8], u64)>

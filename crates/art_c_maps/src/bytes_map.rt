@@ -5,7 +5,8 @@ ghost use Rattle.std.specs.Option.{option_map};
 ghost use Rattle.art_bytes.specs.Text.{text_order};
 ghost use Rattle.art_c_maps.specs.Batch.{ends_of, joined, next_fitting, previous_fitting, unfit_len};
 ghost use Rattle.art_c_maps.specs.Buffers.{key_fits, key_written, len_and_value};
-ghost use Rattle.art_c_maps.specs.Entries.{begun_with, entries_from, entries_in_bytes, entries_to, entries_with_prefix, first_of, keys_of, last_of, put, put_each, value_of, values_of, without};
+ghost use Rattle.art_c_maps.specs.Entries.{begun_with, entries_from, entries_in_bytes, entries_to, entries_with_prefix, first_of, keys_of, last_of, next_entries, put, put_each, value_of, values_of, without};
+ghost use Rattle.art_c_maps.specs.Lent.{LendsNext};
 ghost use Rattle.art_c_maps.specs.Loads.{IsBytesLoadRefused, TakesBytes};
 ghost use Rattle.art_c_maps.specs.Many.{are_found, cut, found_values};
 ghost use Rattle.art_c_maps.specs.Refusals.{IsBytesRefused, IsNotTooLong};
@@ -13,8 +14,11 @@ ghost use Rattle.art_c_maps.specs.Refusals.{IsBytesRefused, IsNotTooLong};
 use crate::batch::write_batch;
 use crate::buffers::{found_fits, write_found, write_removed};
 use crate::byte_string::ByteString;
+use crate::lending::lend_entries;
+use crate::lent::BytesEntry;
 use crate::limit::{Limit, bound_at, limits_from, limits_to};
 use crate::loads::{keys_ascend, map_of_bytes, some_too_long};
+use crate::loan::Loan;
 use crate::many::{bytes_between, found_beside};
 use crate::refusal::{LoadRefusal, Refusal, is_too_long};
 use art_map::{Iter, Map};
@@ -266,6 +270,24 @@ impl BytesMap {
     {
         let entries = self.from_with_prefix(prefix, from, inclusive);
         write_batch(entries, false, keys, ends, values)
+    }
+
+    /// Lends the first entries at a key or after it, only after it where it is not included, of those whose keys
+    /// begin with a prefix: the addresses of their keys, and their values, as many as there are places. Returns
+    /// how many.
+    pub fn lend_next<'a>(
+        &'a self,
+        loan: Loan<'a>,
+        prefix: &[u8],
+        from: &[u8],
+        inclusive: bool,
+        out: &mut [BytesEntry],
+    ) -> usize
+        ensures { LendsNext loan.entry.life (next_entries text_order (length out.old) inclusive from.now
+            (entries_with_prefix prefix.now self.now)) out.old out.new result }
+    {
+        let entries = self.from_with_prefix(prefix, from, inclusive);
+        lend_entries(entries, &loan, out)
     }
 
     /// Writes the last entries at a key or before it, only before it where it is not included, of those

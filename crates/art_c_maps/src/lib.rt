@@ -8,12 +8,17 @@ mod buffers;
 mod byte_string;
 mod bytes_map;
 mod few_bytes;
+mod lending;
+mod lent;
 mod limit;
 mod loads;
+mod loan;
 mod many;
 mod number_map;
 mod refusal;
 
 pub use bytes_map::BytesMap;
+pub use lent::{BytesEntry, NumberRun};
+pub use loan::Loan;
 pub use number_map::NumberMap;
 pub use refusal::{LoadRefusal, Refusal};

@@ -6,10 +6,13 @@ ghost use Rattle.std.specs.Option.{option_map};
 ghost use Rattle.std.specs.Ordering.{is_ge, is_gt, is_le, is_lt, nat_cmp};
 ghost use Rattle.art_c_maps.specs.Batch.{toward};
 ghost use Rattle.art_c_maps.specs.Entries.{begun_with, entries_from, entries_to, first_of, keys_of, last_of, next_entries, previous_entries, put, put_each, value_of, values_of, without};
+ghost use Rattle.art_c_maps.specs.Lent.{LendsRun};
 ghost use Rattle.art_c_maps.specs.Loads.{IsNumberLoadRefused, TakesNumbers};
 ghost use Rattle.art_c_maps.specs.Many.{are_found, found_values};
 
+use crate::lent::NumberRun;
 use crate::loads::{map_of_numbers, numbers_ascend};
+use crate::loan::Loan;
 use crate::many::{found_beside, next_entry};
 use crate::refusal::LoadRefusal;
 use art_map::{Iter, Map};
@@ -214,6 +217,16 @@ impl NumberMap {
             (min (length keys.old) (length values.old)) inclusive from self.now)) values.old }
     {
         write_entries(self.from(from, inclusive), false, keys, values)
+    }
+
+    /// Lends the entries at a key or after it, only after it where it is not included, as they lie in the map, to
+    /// the end of their page. Returns their address, and how many they are: 0 only where none follows.
+    pub fn lend_run<'a>(&'a self, loan: Loan<'a>, from: u64, inclusive: bool) -> (NumberRun, usize)
+        ensures { LendsRun loan.entry.life (entries_from nat_cmp inclusive from self.now) result.0 result.1 }
+    {
+        let mut entries = self.from(from, inclusive);
+        let run = entries.next_run();
+        (NumberRun::of(run, loan), run.len())
     }
 
     /// Writes the last entries at a key or before it, only before it where it is not included, from the last
