@@ -262,7 +262,7 @@ static bool numbers_stop(long allocation) {
     return any;
 }
 
-// The same by bytes, each of which takes memory.
+// The same by bytes: a key of more than 22 takes memory of its own, and these all have more.
 static bool names_stop(long allocation) {
     Maps maps;
     std::vector<std::string> names;
@@ -273,6 +273,7 @@ static bool names_stop(long allocation) {
         size_t len;
         const uint8_t *key = name(i * 37 % 9001, room, &len);
         names.emplace_back(key, key + len);
+        names.back() += std::string(23, 'z');
         ends.push_back((keys += names.back()).size());
     }
     CHECK(art_bytes_new(&maps.bytes) == ART_NONE);
