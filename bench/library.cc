@@ -108,6 +108,18 @@ template <class Map, class Key> Calls<Key> calls_of(const char *name) {
 
 // ---- this library
 
+// The values of the next entries, from a key on, in order: those of a page by each call, as they lie.
+static void walk(const art_u64_map *map, uint64_t from, size_t most, uint64_t &sum) {
+    const art_u64_entry *entries;
+    for (size_t found = 0, count; found < most; found += count) {
+        count = art_u64_page(map, from, found == 0, &entries);
+        if (!count) break;
+        size_t wanted = std::min(count, most - found);
+        for (size_t i = 0; i < wanted; i++) mix(sum, entries[i].value);
+        from = entries[count - 1].key;
+    }
+}
+
 static Calls<uint64_t> art_numbers() {
     Calls<uint64_t> calls{};
     calls.name = "`libart`";
@@ -142,44 +154,29 @@ static Calls<uint64_t> art_numbers() {
         return sum;
     };
     calls.iterate = [](void *map) {
-        uint64_t keys[256], values[256], sum = 0, from = 0;
-        bool inclusive = true;
-        while (size_t count = art_u64_next_many(static_cast<art_u64_map *>(map), from, inclusive, keys, 256, values, 256)) {
-            for (size_t i = 0; i < count; i++) mix(sum, values[i]);
-            from = keys[count - 1];
-            inclusive = false;
-        }
+        uint64_t sum = 0;
+        walk(static_cast<art_u64_map *>(map), 0, SIZE_MAX, sum);
         return sum;
     };
     calls.range = [](void *map, const uint64_t *from, size_t count, size_t most) {
-        uint64_t keys[RANGE], values[RANGE], sum = 0;
-        for (size_t i = 0; i < count; i++) {
-            size_t found = art_u64_next_many(static_cast<art_u64_map *>(map), from[i], true, keys, most, values, most);
-            for (size_t at = 0; at < found; at++) mix(sum, values[at]);
-        }
+        uint64_t sum = 0;
+        for (size_t i = 0; i < count; i++) walk(static_cast<art_u64_map *>(map), from[i], most, sum);
         return sum;
     };
     return calls;
 }
 
-// The next entries, from a key on, in order: how many there were. The batches take turns in two buffers, since none of a
-// call's arguments may overlap, and a batch begins behind the last key of the one before.
-static size_t walk(art_bytes_map *map, const uint8_t *from, size_t len, size_t most, uint64_t &sum) {
-    uint8_t keys[2][16 * 256];
-    size_t ends[256], found = 0, count = 0, next_len = 0;
-    uint64_t values[256];
-    for (int turn = 0; found < most; turn = 1 - turn) {
-        size_t batch = std::min<size_t>(most - found, 256);
-        uint32_t status = art_bytes_next_many(map, nullptr, 0, from, len, found == 0, keys[turn], sizeof keys[turn], ends,
-                                              batch, values, batch, &count, &next_len);
-        if (status != ART_SOME) break;
-        for (size_t i = 0; i < count; i++) mix(sum, values[i]);
-        size_t start = count > 1 ? ends[count - 2] : 0;
-        from = keys[turn] + start;
-        len = ends[count - 1] - start;
-        found += count;
+// The values of the next entries, from a key on, in order. Those of a call are lent up to the next change, so that the next one
+// may begin behind the last key of them.
+static void walk(const art_bytes_map *map, const uint8_t *from, size_t len, size_t most, uint64_t &sum) {
+    art_bytes_entry entries[128];
+    for (size_t found = 0, count; found < most; found += count) {
+        count = art_bytes_page(map, nullptr, 0, from, len, found == 0, entries, std::min<size_t>(most - found, 128));
+        if (!count) break;
+        for (size_t i = 0; i < count; i++) mix(sum, entries[i].value);
+        from = entries[count - 1].key;
+        len = entries[count - 1].key_len;
     }
-    return found;
 }
 
 static Calls<Word> art_words() {
