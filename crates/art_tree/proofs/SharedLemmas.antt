@@ -30,3 +30,4 @@ pub mod OneLeafLess
 pub mod HeldCounts
 pub mod RoomLasts
 pub mod TreeLaws
+pub mod DistinctLists

@@ -1,6 +1,6 @@
 -- Search: there is one way to each leaf of a sound tree that stands.
 use Rattle.art_tree.proofs.Names.{Contains, ◌≡◌, ◌∙◌, inl, inr, ℕ, List, [], ◌∷◌, sym, ap, arith, Contains-append_left, Contains-append_right, AreDistinct, Tree, Leaf, Inner, Branches, NoBranch, Branch, places, branch_places, IsWay, IsWayUnder}
-use Rattle.art_tree.proofs.SharedLemmas.ExchangedSubtree.{AreDistinct-split}
+use Rattle.art_tree.proofs.SharedLemmas.DistinctLists.{AreDistinct-split}
 
 module _ {H : Type 0} where
   mutual

@@ -40,11 +40,6 @@ module _ {K V : Type 0} {P : ℕ} where
   header-held (HeldInner node) header e = (node, refl, cc)
   header-held (HeldLeaf leaf) header e = absurd (cc)
 
-  -- the text of a leaf is that of its key
-  pub text-of-key : (text : K → List ℕ) (leaf : Option (LeafNode K V P)) (key : K) → option_map leaf_key leaf ≡ Some key → option_map_or (λ (l : LeafNode K V P). text (leaf_key l)) leaf [] ≡ text key
-  text-of-key text None key e = absurd (cc)
-  text-of-key text (Some leaf) key e = let same : leaf_key leaf ≡ key = cc in ap text same
-
   -- a node that is not full has space for a child more
   pub not-full : (arena : NodeArena K V P) (pointer : OpaqueNodePtr K V P) {full : Bool} → TellsFull arena pointer full → full ≡ false → (node : Inner (OpaqueNodePtr K V P)) → held arena pointer ≡ HeldInner node → length node.children < most_children (node_kind pointer)
   not-full arena pointer tells untrue node is =

@@ -3,7 +3,8 @@ use Rattle.art_tree.proofs.Names.{◌≡◌, ◌≢◌, ◌⊎◌, ◌∙◌, �
 use Rattle.art_tree.proofs.InsertLemmas.AddedLeaf.{leaves-filled}
 use Rattle.art_tree.proofs.SharedLemmas.DictionaryLemmas.{held-entry}
 use Rattle.art_tree.proofs.RemoveLemmas.RemainingTree.{dropped-count}
-use Rattle.art_tree.proofs.SharedLemmas.ExchangedSubtree.{AreDistinct-split, distinct-part, places-node, smallest_kinds-part, sound-part, stands-part}
+use Rattle.art_tree.proofs.SharedLemmas.ExchangedSubtree.{distinct-part, places-node, smallest_kinds-part, sound-part, stands-part}
+use Rattle.art_tree.proofs.SharedLemmas.DistinctLists.{AreDistinct-split}
 use Rattle.art_tree.proofs.InsertLemmas.GapLemmas.{keys_of, keys-append}
 use Rattle.art_tree.proofs.SharedLemmas.ParentLemmas.{inner-kind}
 use Rattle.art_tree.proofs.InsertLemmas.NodeLemmas.{some-inner}

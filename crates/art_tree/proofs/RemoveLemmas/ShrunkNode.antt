@@ -85,18 +85,6 @@ module _ {K V : Type 0} {P : ℕ} where
       go (HeldInner node) is = (node, is)
       go (HeldLeaf leaf) is = absurd (inner (leaf_kind arena (node_kind pointer) (opaque_key pointer) leaf is))
 
-  -- a node is replaced by one of another kind
-  pub replaced : (old now new : NodeArena K V P) (after : Inner (OpaqueNodePtr K V P)) {at made pointer : OpaqueNodePtr K V P} → at ≡ made → held old made ≡ Nothing → held old pointer ≢ Nothing
-      → Changes old now made (HeldInner after) → Changes now new pointer Nothing → IsReplaced old new pointer (node_kind made) after at
-  replaced old now new after {made = made} {pointer = pointer} same free was made_there given_up =
-      subst (λ p. IsReplaced old new pointer (node_kind made) after p) (sym same) (record {
-        kind = refl;
-        was_free = free;
-        is_held = given_up.others made (λ e. was (ap (held old) (sym e) ∙ free)) ∙ made_there.changed;
-        is_free = given_up.changed;
-        others = λ other not_new not_old. given_up.others other not_old ∙ made_there.others other not_new;
-      })
-
   -- a node of a kind that is replaced by one of the next smaller kind
   module _ (old : NodeArena K V P) (pointer : OpaqueNodePtr K V P) {kind : NodeType} (is_kind : node_kind pointer ≡ kind) where
     pub smaller-room : 0 < room old (shrunk_kind (node_kind pointer)) → 0 < room old (shrunk_kind kind)

@@ -1,6 +1,7 @@
 -- One subtree of a tree is exchanged for another.
 use Rattle.art_tree.proofs.Names.{the_one, all_left, ◌≡◌, ◌≢◌, ◌∙◌, ℕ, suc, ◌<◌, ◌≤◌, nat_lt, List, [], ◌∷◌, ◌++◌, length, filter, Contains, refl, sym, ap, subst, inl, inr, arith, append_assoc, append-nil, le-ltb, lt-ltb, length-map, All-contains, Contains-append_left, Contains-append_right, Contains-append_cases, kind_for, ChildMap, IsAscendingFrom, key_bytes, with_child, OpaqueNodePtr, NodeArena, HeldInner, held, AreDistinct, NodeStands, StandsIn, AllStandIn, Tree, Leaf, Inner, Branches, NoBranch, Branch, leaves, branch_leaves, places, branch_places, branch_roots, root_of, IsSound, IsWellFormed, Context, Whole, Under, plug, path_to, leaves_before, leaves_after, KeepsAt, IsExchanged, join, HasSmallestKinds, InnerNode, node_with_child}
 use Rattle.art_tree.proofs.SharedLemmas.BranchLemmas.{roots-join, leaves-join, places-join, bytes-join, sound-join, stand-join, stand-split, smallest_kinds-join, smallest_kinds-split, sound-split}
+use Rattle.art_tree.proofs.SharedLemmas.DistinctLists.{AreDistinct-split}
 
 -- a child under a byte that is there already takes the place of the one before it
 pub before-byte : {H : Type 0} (low : ℕ) (front : ChildMap H) (byte : ℕ) (child : H) (back : ChildMap H) → IsAscendingFrom low (key_bytes (front ++ (byte, child) ∷ back)) → low ≤ byte
@@ -69,19 +70,6 @@ module _ {H : Type 0} where
 
   pub sound-whole : (context : Context H) (old new : Tree H) → IsWellFormed (plug context old) → IsSound (path_to context) new → IsWellFormed (plug context new)
   sound-whole = sound-exchanged []
-
--- the parts of a list of different members are such lists, and have no member in common
-pub AreDistinct-split : {A : Type 0} (xs ys : List A) → AreDistinct (xs ++ ys) → AreDistinct xs × AreDistinct ys × ((q : A) → Contains xs q → Contains ys q → ⊥)
-AreDistinct-split [] ys distinct = (tt, distinct, λ q (k, inside, is) other. omega (arith, inside))
-AreDistinct-split (x ∷ xs) ys distinct =
-    let rest = AreDistinct-split xs ys distinct.1 in (
-      (all_left (λ other. other ≢ x) xs ys distinct.0, rest.0),
-      rest.1,
-      λ q first second. elim (Contains-append_cases (x ∷ []) xs q first) [
-        | inl here ↦ All-contains (λ other. other ≢ x) (xs ++ ys) q distinct.0 (Contains-append_right xs ys q second) (sym (the_one x q here))
-        | inr later ↦ rest.2 q later second
-      ],
-    )
 
 module _ {H : Type 0} where
   -- the pointers of all that is around the place

@@ -1,5 +1,5 @@
 -- What an arena holds at a pointer, and what stays there.
-use Rattle.art_tree.proofs.Names.{◌≡◌, ◌≢◌, ◌⊎◌, ◌∙◌, ℕ, List, [], Option, Some, None, inl, inr, refl, sym, ap, subst, option_map_or, cases_eq, leaf_key, node_kind, opaque_key, opaque_pointer, OpaqueNodePtr, LeafNode, same_or_differ, NodeArena, Held, HeldInner, HeldLeaf, Nothing, held, held_leaf, Changes, HoldsLeaf, leaf_at, text_at, leaf_text, LeafKind}
+use Rattle.art_tree.proofs.Names.{◌≡◌, ◌≢◌, ◌⊎◌, ◌∙◌, ℕ, List, [], Option, Some, None, inl, inr, refl, sym, ap, subst, option_map, option_map_or, cases_eq, leaf_key, node_kind, opaque_key, opaque_pointer, OpaqueNodePtr, LeafNode, same_or_differ, NodeArena, Held, HeldInner, HeldLeaf, Nothing, held, held_leaf, Changes, HoldsLeaf, leaf_at, text_at, leaf_text, LeafKind}
 
 module _ {K V : Type 0} {P : ℕ} where
   -- two pointers are one or differ
@@ -27,6 +27,11 @@ module _ {K V : Type 0} {P : ℕ} where
 
   pub text-held : (text : K → List ℕ) (arena : NodeArena K V P) (key : ℕ) (leaf : LeafNode K V P) → held arena (opaque_pointer LeafKind key) ≡ HeldLeaf leaf → text_at text arena key ≡ text (leaf_key leaf)
   text-held text arena key leaf e = ap (λ o. option_map_or (λ (l : LeafNode K V P). text (leaf_key l)) o []) (leaf-of (leaf_at arena key) leaf e)
+
+  -- the text of a leaf is that of its key
+  pub text-of-key : (text : K → List ℕ) (leaf : Option (LeafNode K V P)) (key : K) → option_map leaf_key leaf ≡ Some key → option_map_or (λ (l : LeafNode K V P). text (leaf_key l)) leaf [] ≡ text key
+  text-of-key text None key e = absurd (cc)
+  text-of-key text (Some leaf) key e = let same : leaf_key leaf ≡ key = cc in ap text same
 
   -- what stays where a free place is taken
   pub kept-at : (now new : NodeArena K V P) (at : OpaqueNodePtr K V P) (there : Held (OpaqueNodePtr K V P) (LeafNode K V P)) → held now at ≡ Nothing → Changes now new at there → (pointer : OpaqueNodePtr K V P) → held now pointer ≢ Nothing → held new pointer ≡ held now pointer

@@ -1,5 +1,5 @@
 use Rattle.art_tree.proofs.Names.{◌∙◌, ◌-◌, take, drop, ap, sym, subst, length, arith, slab_key, node_kind, opaque_key, opaque_pointer, HeldInner, Changes, leaf_at, node_of}
-use Rattle.art_tree.proofs.InsertLemmas.NodeLemmas.{text-of-key}
+use Rattle.art_tree.proofs.SharedLemmas.HeldNodes.{text-of-key}
 use Rattle.art_tree.proofs.SharedLemmas.PlacedNodes.{placed}
 use Rattle.art_tree.proofs.node.allocate_node_as.Goals as goal
 

@@ -1,5 +1,5 @@
 use Rattle.art_tree.proofs.Names.{◌≢◌, ◌∙◌, sym, subst, slab_key, opaque_pointer, held, Nothing, Changes}
-use Rattle.art_tree.proofs.RemoveLemmas.ShrunkNode.{replaced}
+use Rattle.art_tree.proofs.SharedLemmas.PlacedNodes.{replaced}
 use Rattle.art_tree.proofs.SharedLemmas.HeldNodes.{kept-at}
 use Rattle.art_tree.proofs.node.replace_node.Goals as goal
 

@@ -1,6 +1,7 @@
 use Rattle.art_tree.proofs.Names.{◌∙◌, length, lit<, rules, arith, sym, ap, subst, option_copied, StandsFor, header_of, node_with_prefix_of, slab_key, held, HeldInner, Changes, leaf_at, one-inner}
 use Rattle.art_tree.proofs.SharedLemmas.ParentLemmas.{inner-kind}
-use Rattle.art_tree.proofs.InsertLemmas.NodeLemmas.{header-held, text-of-key}
+use Rattle.art_tree.proofs.InsertLemmas.NodeLemmas.{header-held}
+use Rattle.art_tree.proofs.SharedLemmas.HeldNodes.{text-of-key}
 use Rattle.art_tree.proofs.insert.added_child.trim.Goals as goal
 
 pub ltrim_by_with_leaf-requires : goal.ltrim_by_with_leaf-requires
