@@ -1,6 +1,5 @@
 pub mod Arena
 pub mod Ends
-pub mod FullPrefix
 pub mod InnerRef
 pub mod Lending
 pub mod Links

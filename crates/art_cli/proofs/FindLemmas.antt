@@ -15,11 +15,11 @@ use Rattle.art_nodes.specs.declared.pointers.OpaqueNodePtr.{OpaqueNodePtr}
 use Rattle.art_arena.specs.Arena.{NodeArena, HeldLeaf, held, held_leaf}
 use Rattle.art_arena.specs.Links.{leaf_at}
 use Rattle.art_arena.specs.Trees.{Tree, leaves, texts}
-use Rattle.art_tree.specs.Dictionary.{entry_at, HasEntry, IsEmpty, IsEntry}
-use Rattle.art_tree.specs.Search.{scan, leaf_pointer}
-use Rattle.art_tree.specs.Insertion.{ClashesIn, MayEnter, IsRefused}
-use Rattle.art_tree.specs.declared.insert.InsertRefusal.{InsertRefusal}
-use Rattle.art_tree.specs.declared.insert.InsertRefusal.TheVariants.{KeyTooLong, Prefix, OutOfMemory}
+use Rattle.art_steps.specs.Dictionary.{entry_at, HasEntry, IsEmpty, IsEntry}
+use Rattle.art_search.specs.Search.{scan, leaf_pointer}
+use Rattle.art_steps.specs.Insertion.{ClashesIn, MayEnter, IsRefused}
+use Rattle.art_steps.specs.declared.faults.InsertRefusal.{InsertRefusal}
+use Rattle.art_steps.specs.declared.faults.InsertRefusal.TheVariants.{KeyTooLong, Prefix, OutOfMemory}
 use Rattle.art_cli.specs.declared.find.command.TreeCommand.{TreeCommand}
 use Rattle.art_cli.specs.declared.find.command.TreeCommand.TheVariants.{Insert, Remove, Find}
 use Rattle.program_lines.specs.declared.failure.Failure.{Failure}

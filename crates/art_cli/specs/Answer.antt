@@ -4,10 +4,10 @@ use Rattle.std.specs.Fmt.{decimal}
 use Rattle.art_nodes.specs.declared.pointers.OpaqueNodePtr.{OpaqueNodePtr}
 use Rattle.art_arena.specs.Arena.{NodeArena}
 use Rattle.art_arena.specs.Trees.{Tree, texts, IsWellFormed}
-use Rattle.art_tree.specs.Dictionary.{entry_at}
-use Rattle.art_tree.specs.Search.{scan, met, IsPathTo}
-use Rattle.art_tree.specs.declared.path.TreePath.{TreePath}
-use Rattle.art_tree.specs.declared.path.TreePath.TheVariants.{Root, ChildOfRoot, Normal}
+use Rattle.art_steps.specs.Dictionary.{entry_at}
+use Rattle.art_search.specs.Search.{scan, met, IsPathTo}
+use Rattle.art_search.specs.declared.path.TreePath.{TreePath}
+use Rattle.art_search.specs.declared.path.TreePath.TheVariants.{Root, ChildOfRoot, Normal}
 use Rattle.art_cli.specs.Find.{Entries, after, IsAdmitted}
 use Rattle.program_lines.specs.Lines.{line}
 use Rattle.art_cli.specs.declared.find.command.TreeCommand.{TreeCommand}

@@ -1,7 +1,7 @@
 -- The commands that the lines of `find` give, and the entries after them.
 use Rattle.std.specs.Prelude.{◌≡◌, ◌≢◌, ℕ, ◌+◌, ◌<◌, ◌≤◌, ◌^◌, List, [], ◌∷◌, ◌++◌, Option, None, Some, bytes_eq, length}
 use Rattle.std.specs.Map.{update}
-use Rattle.art_tree.specs.Dictionary.{OneIsProperPrefix}
+use Rattle.art_steps.specs.Dictionary.{OneIsProperPrefix}
 use Rattle.program_lines.specs.Lines.{lines_of, SayAll}
 use Rattle.art_cli.specs.declared.failure.LineFault.{LineFault}
 use Rattle.art_cli.specs.declared.failure.LineFault.TheVariants.{KeyTooLong, PrefixOfOther}

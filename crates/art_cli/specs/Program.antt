@@ -22,8 +22,8 @@ use Rattle.art_cli.specs.Find.{SayTreeCommand, Entries, no_entries, IsRefusedLin
 use Rattle.art_cli.specs.Answer.{AreReplies}
 use Rattle.art_cli.specs.declared.find.command.TreeCommand.{TreeCommand}
 use Rattle.art_cli.specs.declared.find.command.TreeCommand.TheVariants.{Insert}
-use Rattle.art_tree.specs.declared.insert.InsertRefusal.{InsertRefusal}
-use Rattle.art_tree.specs.declared.insert.InsertRefusal.TheVariants as refusals
+use Rattle.art_steps.specs.declared.faults.InsertRefusal.{InsertRefusal}
+use Rattle.art_steps.specs.declared.faults.InsertRefusal.TheVariants as refusals
 
 -- every line gives a command, and the output is a line for each reply to them, from no children on,
 -- and one for the node that is left

@@ -1,7 +1,7 @@
 //! `artnodes find P`: reads entries, removals and queries, and prints the results.
 ghost use Rattle.std.specs.Prelude.{IfOk, IfErr, OnOk, string_bytes};
 ghost use Rattle.art_bytes.specs.SliceKey.{slice_key_text};
-ghost use Rattle.art_tree.specs.Dictionary.{IsEmpty};
+ghost use Rattle.art_steps.specs.Dictionary.{IsEmpty};
 ghost use Rattle.art_cli.specs.Find.{GiveCommands};
 ghost use Rattle.art_cli.specs.Program.{IsFindOutput, IsFindFailure};
 

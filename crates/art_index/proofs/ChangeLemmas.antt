@@ -17,13 +17,13 @@ use Rattle.art_arena.specs.Links.{leaf_at}
 use Rattle.art_nodes.specs.Pointers.{opaque_pointer, slab_key}
 use Rattle.art_nodes.specs.declared.pointers.OpaqueNodePtr.{OpaqueNodePtr}
 use Rattle.art_tree.proofs.EntryLaws.{are-entries, list-put, list-same, list-without, without-cases}
-use Rattle.art_tree.specs.Art.{Art}
-use Rattle.art_tree.specs.Dictionary.{IsEntry, SameOtherEntries, entry_at}
+use Rattle.art_steps.specs.Art.{Art}
+use Rattle.art_steps.specs.Dictionary.{IsEntry, SameOtherEntries, entry_at}
 use Rattle.art_tree.specs.LeafRemoval.{TakesEntry}
-use Rattle.art_tree.specs.Leaves.{KeepsOtherLeaves}
-use Rattle.art_tree.specs.Removal.{IsLeft}
+use Rattle.art_steps.specs.Leaves.{KeepsOtherLeaves}
+use Rattle.art_steps.specs.Removal.{IsLeft}
 use Rattle.art_tree.specs.Entries.{entries_of, put_entry, without_text}
-use Rattle.art_tree.specs.Refusals.{texts_of}
+use Rattle.art_steps.specs.Refusals.{texts_of}
 use Rattle.art_index.specs.Places.{AllAbove, AllBelow, IsPlaced, leaf_entry}
 use Rattle.art_index.proofs.BranchLemmas.{all-unmapped}
 use Rattle.art_index.proofs.PlaceLemmas.{parts-same, slot-of, some-mapped}

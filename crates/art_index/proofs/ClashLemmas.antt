@@ -8,9 +8,9 @@ use Rattle.art_keys.specs.Encoding.{SortedBy}
 use Rattle.art_keys.specs.EncodingLaws.{prefix_ties}
 use Rattle.art_arena.specs.Arena.{NodeArena}
 use Rattle.art_tree.proofs.EntryLaws.{are-entries}
-use Rattle.art_tree.specs.Dictionary.{IsEntry, IsProperPrefixOf}
+use Rattle.art_steps.specs.Dictionary.{IsEntry, IsProperPrefixOf}
 use Rattle.art_tree.specs.Entries.{entries_of}
-use Rattle.art_tree.specs.Insertion.{ClashesIn}
+use Rattle.art_steps.specs.Insertion.{ClashesIn}
 
 no-proper-prefix : (order : Ordering) (a b : List ℕ) → SortedBy order a b → IsProperPrefixOf a b → ⊥
 no-proper-prefix order a b sorted ((rest, is), differ) =

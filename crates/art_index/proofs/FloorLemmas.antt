@@ -15,9 +15,9 @@ use Rattle.art_arena.specs.Links.{previous_at}
 use Rattle.art_arena.specs.Trees.{Tree, leaves}
 use Rattle.art_arena.specs.declared.ends.End.{End}
 use Rattle.art_arena.specs.declared.ends.End.TheVariants.{First, Last}
-use Rattle.art_tree.specs.Art.{IsAlone}
-use Rattle.art_tree.specs.Refusals.{texts_of}
-use Rattle.art_tree.specs.Search.{leaf_pointer}
+use Rattle.art_steps.specs.Art.{IsAlone}
+use Rattle.art_steps.specs.Refusals.{texts_of}
+use Rattle.art_search.specs.Search.{leaf_pointer}
 use Rattle.art_index.specs.Descent.{AreLow, IsBeside, IsUpTo}
 use Rattle.art_index.specs.Places.{AllAbove, IsFloorFound, IsPlaced, IsPrevious}
 use Rattle.art_index.proofs.BranchLemmas.{all-unmapped}

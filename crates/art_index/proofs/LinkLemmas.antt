@@ -17,8 +17,8 @@ use Rattle.art_arena.specs.Trees.{Tree, leaves}
 use Rattle.art_arena.specs.declared.ends.End.{End}
 use Rattle.art_arena.specs.declared.ends.End.TheVariants.{First, Last}
 use Rattle.art_tree.proofs.EntryLaws.{leaf-held-in}
-use Rattle.art_tree.specs.Art.{IsAlone, IsArt}
-use Rattle.art_tree.specs.Search.{leaf_pointer}
+use Rattle.art_steps.specs.Art.{IsAlone, IsArt}
+use Rattle.art_search.specs.Search.{leaf_pointer}
 use Rattle.art_index.specs.Descent.{IsUpTo}
 use Rattle.art_index.specs.Places.{IsFirst, IsLast, IsNext, IsPlaced, IsPrevious}
 use Rattle.art_index.proofs.PlaceLemmas.{IsAmong, among, around-place, front-long, held-placed, no-entries, parts-same}

@@ -15,11 +15,11 @@ use Rattle.art_arena.specs.Links.{HoldsLeaf, leaf_at}
 use Rattle.art_arena.specs.Standing.{StandsIn, TreeAt}
 use Rattle.art_arena.specs.Trees.{Tree, leaves}
 use Rattle.art_tree.proofs.EntryLaws.{apart-there, are-entries, empty-entry, entry-of-member, entry-texts, leaf-held-in, leaf-in, no-list}
-use Rattle.art_tree.specs.Art.{IsAlone, IsArt}
-use Rattle.art_tree.specs.Dictionary.{IsEntry, entry_at}
+use Rattle.art_steps.specs.Art.{IsAlone, IsArt}
+use Rattle.art_steps.specs.Dictionary.{IsEntry, entry_at}
 use Rattle.art_tree.specs.Entries.{entries_of}
-use Rattle.art_tree.specs.Refusals.{texts_of}
-use Rattle.art_tree.specs.Search.{leaf_pointer}
+use Rattle.art_steps.specs.Refusals.{texts_of}
+use Rattle.art_search.specs.Search.{leaf_pointer}
 use Rattle.art_index.specs.Places.{IsPlaced, leaf_entry}
 
 -- a list whose images part at a place parts there

@@ -12,11 +12,11 @@ use Rattle.art_arena.specs.Arena.{Changes, LeafPtr, NodeArena, HeldLeaf, Nothing
 use Rattle.art_arena.specs.Links.{leaf_at}
 use Rattle.art_arena.specs.Trees.{Tree, leaves, texts}
 use Rattle.art_tree.proofs.EntryLaws.{apart-there, are-entries, entry-of-member, leaf-held-in, leaf-in, list-put, text-of-entry}
-use Rattle.art_tree.specs.Art.{IsAlone, IsArt}
-use Rattle.art_tree.specs.Dictionary.{IsEntry, SameOtherEntries, entry_at}
+use Rattle.art_steps.specs.Art.{IsAlone, IsArt}
+use Rattle.art_steps.specs.Dictionary.{IsEntry, SameOtherEntries, entry_at}
 use Rattle.art_tree.specs.Entries.{put_entry}
-use Rattle.art_tree.specs.Refusals.{texts_of}
-use Rattle.art_tree.specs.Search.{leaf_pointer}
+use Rattle.art_steps.specs.Refusals.{texts_of}
+use Rattle.art_search.specs.Search.{leaf_pointer}
 use Rattle.art_index.specs.Places.{IsPlaced, leaf_entry}
 use Rattle.art_index.proofs.ChangeLemmas.{put-over}
 use Rattle.art_index.proofs.LinkLemmas.{no-place}

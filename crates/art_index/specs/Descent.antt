@@ -11,7 +11,7 @@ use Rattle.art_nodes.specs.Pointers.{slab_key}
 use Rattle.art_arena.specs.Arena.{LeafPtr, NodeArena}
 use Rattle.art_arena.specs.Ends.{IsAtEnd}
 use Rattle.art_arena.specs.Links.{HoldsLeaf, previous_at}
-use Rattle.art_tree.specs.Search.{leaf_pointer}
+use Rattle.art_search.specs.Search.{leaf_pointer}
 use Rattle.art_arena.specs.Standing.{StandsIn, TreeAt}
 use Rattle.art_arena.specs.Trees.{Tree, Inner, Branches, branch_leaves, leaves, root_of, IsSound}
 use Rattle.art_arena.specs.declared.ends.End.{End}

@@ -3,9 +3,9 @@ ghost use Rattle.std.specs.Prelude.{◌≡◌};
 ghost use Rattle.art_nodes.specs.Pointers.{slab_key};
 ghost use Rattle.art_arena.specs.Arena.{LeafPtr, NodeArena};
 ghost use Rattle.art_arena.specs.Links.{HoldsLeaf};
-ghost use Rattle.art_tree.specs.Art.{IsArt};
-ghost use Rattle.art_tree.specs.Dictionary.{IsEntry};
-ghost use Rattle.art_tree.specs.Insertion.{ClashesIn};
+ghost use Rattle.art_steps.specs.Art.{IsArt};
+ghost use Rattle.art_steps.specs.Dictionary.{IsEntry};
+ghost use Rattle.art_steps.specs.Insertion.{ClashesIn};
 ghost use Rattle.art_index.specs.Places.{IsPlaced};
 
 use art_bytes::AsBytes;

@@ -5,9 +5,9 @@ ghost use Rattle.art_nodes.specs.Pointers.{slab_key};
 ghost use Rattle.art_arena.specs.Arena.{LeafPtr, SameNodes};
 ghost use Rattle.art_arena.specs.Links.{with_value_at};
 ghost use Rattle.art_tree.specs.Entries.{entries_of};
-ghost use Rattle.art_tree.specs.Insertion.{IsRefused};
-ghost use Rattle.art_tree.specs.Room.{HasEntryRoom};
-ghost use Rattle.art_tree.specs.declared.insert.InsertRefusal.TheVariants.{OutOfMemory};
+ghost use Rattle.art_steps.specs.Insertion.{IsRefused};
+ghost use Rattle.art_steps.specs.Room.{HasEntryRoom};
+ghost use Rattle.art_steps.specs.declared.faults.InsertRefusal.TheVariants.{OutOfMemory};
 ghost use Rattle.art_tree.specs.TreeLending.{LendsLeafValue};
 ghost use Rattle.art_index.specs.Places.{AllAbove, AllBelow, IsFirst, IsLast, IsNext, IsPlaced, IsPrevious};
 

@@ -9,7 +9,7 @@ ghost use Rattle.art_arena.specs.InnerRef.{inner_shown};
 ghost use Rattle.art_arena.specs.Links.{HoldsLeaf};
 ghost use Rattle.art_arena.specs.Standing.{TreeAt};
 ghost use Rattle.art_arena.specs.Trees.{leaves};
-ghost use Rattle.art_tree.specs.Search.{HasTree, EachTree, leaf_pointer};
+ghost use Rattle.art_search.specs.Search.{HasTree, EachTree, leaf_pointer};
 ghost use Rattle.art_index.specs.Places.{IsFloorFound};
 ghost use Rattle.art_index.specs.Descent.{ComparesAs, GoesTo, IsBeside, IsDeeper, IsUpTo, LeadsTo, PassesPrefix, StaysIn};
 

@@ -21,13 +21,13 @@ use Rattle.art_arena.specs.Trees.{texts}
 use Rattle.art_pages.specs.Contents.{Contents}
 use Rattle.art_pages.specs.Entries.{IsIndexable, AreKeys}
 use Rattle.art_tree.proofs.EntryLaws.{entry-listed, list-same}
-use Rattle.art_tree.specs.Dictionary.{IsEntry, SameEntries}
+use Rattle.art_steps.specs.Dictionary.{IsEntry, SameEntries}
 use Rattle.art_tree.specs.Entries.{entries_of}
-use Rattle.art_tree.specs.Insertion.{ClashesIn, IsRefused}
-use Rattle.art_tree.specs.NodeCounts.{nodes_of}
-use Rattle.art_tree.specs.Room.{HasEntryRoom, HasRoomOf}
-use Rattle.art_tree.specs.declared.insert.InsertRefusal.{InsertRefusal}
-use Rattle.art_tree.specs.declared.insert.InsertRefusal.TheVariants.{KeyTooLong, Prefix, OutOfMemory}
+use Rattle.art_steps.specs.Insertion.{ClashesIn, IsRefused}
+use Rattle.art_steps.specs.NodeCounts.{nodes_of}
+use Rattle.art_steps.specs.Room.{HasEntryRoom, HasRoomOf}
+use Rattle.art_steps.specs.declared.faults.InsertRefusal.{InsertRefusal}
+use Rattle.art_steps.specs.declared.faults.InsertRefusal.TheVariants.{KeyTooLong, Prefix, OutOfMemory}
 use Rattle.art_index.specs.Places.{AllAbove, AllBelow, IsPlaced}
 use Rattle.art_index.proofs.BranchLemmas.{all-unmapped}
 use Rattle.art_map.specs.Pages.{map_entries, AnchorsAbove, AreParted, IsEncoding, IsMap}

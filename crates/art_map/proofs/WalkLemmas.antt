@@ -9,7 +9,7 @@ use Rattle.art_nodes.specs.declared.pointers.OpaqueNodePtr.{OpaqueNodePtr}
 use Rattle.art_arena.specs.Arena.{Held, HeldInner, HeldLeaf, LeafPtr, NodeArena, Nothing, SameNodes, held_leaf}
 use Rattle.art_arena.specs.Links.{leaf_at}
 use Rattle.art_tree.specs.Entries.{entries_of}
-use Rattle.art_tree.specs.Search.{leaf_pointer}
+use Rattle.art_search.specs.Search.{leaf_pointer}
 use Rattle.art_index.specs.Places.{IsFirst, IsNext, IsPlaced, IsPrevious, leaf_entry}
 use Rattle.art_pages.proofs.RetainLemmas.{callable-back, callable-front, retains-append}
 use Rattle.art_pages.specs.Contents.{Contents}

@@ -2,7 +2,7 @@
 ghost use Rattle.std.specs.Prelude.{◌≡◌, ◌<◌, None, [], length, IsTrue};
 ghost use Rattle.art_pages.specs.Entries.{AllBelow, IsIndexable};
 ghost use Rattle.art_index.specs.Places.{IsPlaced};
-ghost use Rattle.art_tree.specs.Room.{HasEntryRoom};
+ghost use Rattle.art_steps.specs.Room.{HasEntryRoom};
 ghost use Rattle.art_map.specs.Pages.{map_entries, AnchorsBelow, IsMap};
 ghost use Rattle.art_map.specs.Trees.{pages_in, pages_of};
 

@@ -4,11 +4,11 @@ use Rattle.std.specs.Option.{option_map}
 use Rattle.std.proofs.lemmas.List.Elements.{All-weaker}
 use Rattle.art_arena.specs.Arena.{NodeArena}
 use Rattle.art_tree.proofs.EntryLaws.{are-entries, list-without, never-clash-in, one-list}
-use Rattle.art_tree.specs.Dictionary.{HasKeys, IsEntry, SameOtherEntries, entry_at}
+use Rattle.art_steps.specs.Dictionary.{HasKeys, IsEntry, SameOtherEntries, entry_at}
 use Rattle.art_tree.specs.Entries.{entries_of, without_text}
-use Rattle.art_tree.specs.Insertion.{IsRefused}
-use Rattle.art_tree.specs.declared.insert.InsertRefusal.{InsertRefusal}
-use Rattle.art_tree.specs.declared.insert.InsertRefusal.TheVariants.{KeyTooLong, OutOfMemory, Prefix}
+use Rattle.art_steps.specs.Insertion.{IsRefused}
+use Rattle.art_steps.specs.declared.faults.InsertRefusal.{InsertRefusal}
+use Rattle.art_steps.specs.declared.faults.InsertRefusal.TheVariants.{KeyTooLong, OutOfMemory, Prefix}
 use Rattle.art_routes.specs.KeyLaws.{key_long, no_key_begins_another, width_most}
 use Rattle.art_routes.specs.Keys.{key_text}
 use Rattle.art_routes.specs.Networks.{Block, IsNetwork}

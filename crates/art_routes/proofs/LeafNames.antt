@@ -30,15 +30,15 @@ pub use Rattle.art_arena.specs.Trees.{Branch, Branches, Inner, Leaf, NoBranch, T
 pub use Rattle.art_arena.specs.declared.ends.End.{End}
 pub use Rattle.art_arena.specs.declared.ends.End.TheVariants.{First, Last}
 pub use Rattle.art_tree.proofs.EntryLaws.{HasEach, apart-there, are-entries, ascend-there, distinct-fit, empty-entry, entry-of-member, entry-some, entry-texts, leaf-held-in, leaf-in, list-put, list-same, list-without, no-list, one-list, put-cases, text-of-entry}
-pub use Rattle.art_tree.specs.Art.{IsAlone, IsArt}
-pub use Rattle.art_tree.specs.Dictionary.{HasEntry, IsEntry, SameOtherEntries, entry_among, entry_at}
+pub use Rattle.art_steps.specs.Art.{IsAlone, IsArt}
+pub use Rattle.art_steps.specs.Dictionary.{HasEntry, IsEntry, SameOtherEntries, entry_among, entry_at}
 pub use Rattle.art_tree.specs.Entries.{AreEntries, entries_among, entries_of, put_entry, without_text}
-pub use Rattle.art_tree.specs.Refusals.{texts_of}
-pub use Rattle.art_tree.specs.Removal.{IsLeft, NeedsSmallerNode}
-pub use Rattle.art_tree.specs.Search.{leaf_pointer}
-pub use Rattle.art_tree.specs.Sides.{AreOn, IsNextTo, is_before}
-pub use Rattle.art_tree.specs.declared.place.Side.{Side}
-pub use Rattle.art_tree.specs.declared.place.Side.TheVariants.{After, AfterBegun, Before}
+pub use Rattle.art_steps.specs.Refusals.{texts_of}
+pub use Rattle.art_steps.specs.Removal.{IsLeft, NeedsSmallerNode}
+pub use Rattle.art_search.specs.Search.{leaf_pointer}
+pub use Rattle.art_steps.specs.Sides.{AreOn, IsNextTo, is_before}
+pub use Rattle.art_steps.specs.declared.place.Side.{Side}
+pub use Rattle.art_steps.specs.declared.place.Side.TheVariants.{After, AfterBegun, Before}
 pub use Rattle.art_routes.specs.TreeEntries.{entries_with_value, entry_with, set_value}
 pub use Rattle.art_routes.specs.LeafEntries.{AllHold, HoldsEntryOf, keys_of}
 pub use Rattle.art_routes.specs.NearestLeaves.{IsFirstAfter, IsLastBefore, IsNearest, is_between}

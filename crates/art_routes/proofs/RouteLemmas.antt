@@ -8,7 +8,7 @@ use Rattle.std.specs.declared.cmp.Ordering.TheVariants.{Less, Equal, Greater}
 use Rattle.std.proofs.lemmas.List.Elements.{All-head, All-tail, All-nil, All-cons}
 use Rattle.art_bytes.specs.Text.{text_order}
 use Rattle.art_tree.specs.Entries.{put_entry, without_text}
-use Rattle.art_tree.specs.Refusals.{texts_of}
+use Rattle.art_steps.specs.Refusals.{texts_of}
 use Rattle.art_routes.specs.TreeEntries.{entry_with, entries_with_value}
 use Rattle.art_routes.specs.KeyLaws.{key_order}
 use Rattle.art_routes.specs.Keys.{key_text}

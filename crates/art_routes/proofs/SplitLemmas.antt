@@ -2,7 +2,7 @@
 use Rattle.art_routes.proofs.LeafNames.{All, All-head, All-tail, AllHold, AreOn, Ascend, Before, Changes, Contains, Contains-append_right, Contains-get_or, HeldLeaf, HoldsFirst, IsAlone, IsArt, IsFirstAfter, IsSplit, LeafNode, LeafPtr, Less, List, NodeArena, None, OpaqueNodePtr, Option, Some, Spells, Tree, [], ap, append_assoc, are-entries, arith, ascend_rest, entries_of, entries_under, false, filter_map-append, first_or_later, first_there, get_or, held, held_leaf, image_inside, inl, inr, is_before, keys_of, knit-member, leaf-in, leaf_at, leaf_entry, leaf_key, leaf_pointer, leaves, less_differs, map, next-member, next_at, none_below, none_inside, opaque_key, opaque_pointer, option_map, other_text, refl, slab_key, slice_get, subst, sym, text_itself, text_order, texts_of, true, without_text, ℕ, ◌++◌, ◌∙◌, ◌∷◌, ◌≡◌, ◌≢◌}
 use Rattle.art_header.specs.declared.node_type.NodeType.TheVariants as kinds
 use Rattle.art_nodes.specs.Leaf.{with_value}
-use Rattle.art_tree.specs.Leaves.{KeepsOtherLeaves}
+use Rattle.art_steps.specs.Leaves.{KeepsOtherLeaves}
 use Rattle.art_routes.proofs.CalledLemmas.{alone-kept, held-slot}
 use Rattle.art_routes.proofs.EntryLemmas.{entries-of-leaves, leaves-hold}
 use Rattle.art_routes.proofs.ListLemmas.{slot-of}

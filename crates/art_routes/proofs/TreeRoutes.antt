@@ -9,8 +9,8 @@ use Rattle.art_nodes.specs.declared.leaf_node.LeafNode.{LeafNode}
 use Rattle.art_nodes.specs.declared.pointers.OpaqueNodePtr.{OpaqueNodePtr}
 use Rattle.art_arena.specs.Arena.{NodeArena, HeldLeaf, held}
 use Rattle.art_arena.specs.Trees.{Tree, leaves, texts}
-use Rattle.art_tree.specs.Art.{IsAlone}
-use Rattle.art_tree.specs.Dictionary.{HasEntry, HasKeys, IsEntry, entry_at}
+use Rattle.art_steps.specs.Art.{IsAlone}
+use Rattle.art_steps.specs.Dictionary.{HasEntry, HasKeys, IsEntry, entry_at}
 use Rattle.art_tree.specs.Entries.{entries_of}
 use Rattle.art_routes.specs.declared.address.Address.{Address}
 use Rattle.art_routes.specs.Keys.{key_text}

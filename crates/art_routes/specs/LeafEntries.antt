@@ -6,7 +6,7 @@ use Rattle.art_nodes.specs.declared.pointers.OpaqueNodePtr.{OpaqueNodePtr}
 use Rattle.art_nodes.specs.declared.leaf_node.LeafNode.{LeafNode}
 use Rattle.art_arena.specs.Arena.{NodeArena, HeldLeaf, held}
 use Rattle.art_arena.specs.Links.{leaf_at}
-use Rattle.art_tree.specs.Dictionary.{entry_at}
+use Rattle.art_steps.specs.Dictionary.{entry_at}
 
 -- the slab keys of leaves
 abbrev pub keys_of : {K V : Type 0} {P : ℕ} → List (OpaqueNodePtr K V P × List ℕ) → List ℕ

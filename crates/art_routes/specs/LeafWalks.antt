@@ -7,7 +7,7 @@ use Rattle.art_nodes.specs.declared.leaf_node.LeafNode.{LeafNode}
 use Rattle.art_arena.specs.Arena.{LeafPtr, NodeArena}
 use Rattle.art_arena.specs.Links.{leaf_at}
 use Rattle.art_tree.specs.Entries.{entries_of}
-use Rattle.art_tree.specs.Refusals.{texts_of}
+use Rattle.art_steps.specs.Refusals.{texts_of}
 use Rattle.art_routes.specs.LeafRuns.{leaf_entry}
 use Rattle.art_routes.specs.Shrinking.{NeedsNode}
 

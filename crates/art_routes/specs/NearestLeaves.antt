@@ -2,8 +2,8 @@
 use Rattle.std.specs.Prelude.{◌≡◌, ℕ, Bool, true, false, not, ◌&&◌, List, [], ◌∷◌, ◌++◌, Option, Some, None}
 use Rattle.art_arena.specs.declared.ends.End.{End}
 use Rattle.art_arena.specs.declared.ends.End.TheVariants.{First, Last}
-use Rattle.art_tree.specs.Sides.{is_before, AreOn}
-use Rattle.art_tree.specs.declared.place.Side.{Side}
+use Rattle.art_steps.specs.Sides.{is_before, AreOn}
+use Rattle.art_steps.specs.declared.place.Side.{Side}
 
 -- whether a text comes after the one side of a key and before the other
 abbrev pub is_between : Side → List ℕ → Side → List ℕ → List ℕ → Bool

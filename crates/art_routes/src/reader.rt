@@ -32,8 +32,8 @@ pub trait ReadsRoutes<R, V>: Sized {
 }
 
 impl<'a, V> ReadsRoutes<RouteNode<V>, V> for ArenaReader<'a, RouteKey, V, PREFIX_LEN> {
-    ghost use Rattle.art_tree.specs.Art.{IsArt};
-    ghost use Rattle.art_tree.specs.Dictionary.{HasKeys};
+    ghost use Rattle.art_steps.specs.Art.{IsArt};
+    ghost use Rattle.art_steps.specs.Dictionary.{HasKeys};
     ghost use Rattle.art_tree.specs.Entries.{entries_of};
     ghost use Rattle.art_routes.specs.Keys.{key_text};
     ghost use Rattle.art_routes.specs.Networks.{IsNetwork};

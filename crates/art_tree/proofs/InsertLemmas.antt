@@ -1,10 +1,4 @@
 pub mod FirstEntry
-pub mod SubtreeLemmas
-pub mod AddedLeaf
-pub mod LinkLemmas
-pub mod NodeLemmas
-pub mod GapLemmas
-pub mod AddedChild
 pub mod AddedFork
 pub mod EntryLemmas
 pub mod NeededNodes

@@ -3,7 +3,6 @@ pub mod WayContexts
 pub mod RemainingTree
 pub mod LeafParent
 pub mod RemovedChild
-pub mod ShrunkNode
 pub mod MergedNode
 pub mod RemovalLemmas
 pub mod NeededNodes

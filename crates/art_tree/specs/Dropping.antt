@@ -9,12 +9,12 @@ use Rattle.art_nodes.specs.declared.pointers.OpaqueNodePtr.{OpaqueNodePtr}
 use Rattle.art_arena.specs.Arena.{NodeArena, HeldLeaf, Nothing, held, room}
 use Rattle.art_arena.specs.Links.{Spells}
 use Rattle.art_arena.specs.Trees.{Tree, Leaf, Inner, Branches, Branch}
-use Rattle.art_tree.specs.Contexts.{Context, Whole, Under, plug, join}
-use Rattle.art_tree.specs.Edits.{StaysAt}
-use Rattle.art_tree.specs.Nodes.{FreesOne}
-use Rattle.art_tree.specs.Paths.{Steps, path_of}
-use Rattle.art_tree.specs.Places.{above}
-use Rattle.art_tree.specs.declared.path.TreePath.{TreePath}
+use Rattle.art_steps.specs.Contexts.{Context, Whole, Under, plug, join}
+use Rattle.art_steps.specs.Edits.{StaysAt}
+use Rattle.art_links.specs.Nodes.{FreesOne}
+use Rattle.art_search.specs.Paths.{Steps, path_of}
+use Rattle.art_steps.specs.Places.{above}
+use Rattle.art_search.specs.declared.path.TreePath.{TreePath}
 use Rattle.art_tree.specs.declared.remove.LeafSpot.{LeafSpot}
 
 -- the inner nodes above a place from the root down, each with the byte that is taken from it

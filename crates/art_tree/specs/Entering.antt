@@ -5,16 +5,16 @@ use Rattle.art_header.specs.declared.node_type.NodeType.{NodeType}
 use Rattle.art_nodes.specs.declared.pointers.OpaqueNodePtr.{OpaqueNodePtr}
 use Rattle.art_arena.specs.Arena.{LeafPtr, NodeArena, SameNodes, SameRoom}
 use Rattle.art_arena.specs.Trees.{Tree, leaves}
-use Rattle.art_tree.specs.Art.{Art, IsAlone}
-use Rattle.art_tree.specs.Dictionary.{SameEntries, entry_at}
-use Rattle.art_tree.specs.Edits.{HoldsEntry}
-use Rattle.art_tree.specs.Insertion.{FindsEntry, IsEntered, IsRefused, MayEnter}
-use Rattle.art_tree.specs.Places.{Belongs, present_leaf}
-use Rattle.art_tree.specs.Room.{GrowsOnlyWhere, HasEntryRoom, LacksRoomToInsert}
-use Rattle.art_tree.specs.Search.{EachTree, leaf_pointer}
-use Rattle.art_tree.specs.declared.insert.InsertFault.{InsertFault}
-use Rattle.art_tree.specs.declared.insert.InsertRefusal.TheVariants.{OutOfMemory}
-use Rattle.art_tree.specs.declared.place.Place.{Place}
+use Rattle.art_steps.specs.Art.{Art, IsAlone}
+use Rattle.art_steps.specs.Dictionary.{SameEntries, entry_at}
+use Rattle.art_steps.specs.Edits.{HoldsEntry}
+use Rattle.art_steps.specs.Insertion.{FindsEntry, IsEntered, IsRefused, MayEnter}
+use Rattle.art_steps.specs.Places.{Belongs, present_leaf}
+use Rattle.art_steps.specs.Room.{GrowsOnlyWhere, HasEntryRoom, LacksRoomToInsert}
+use Rattle.art_search.specs.Search.{EachTree, leaf_pointer}
+use Rattle.art_steps.specs.declared.faults.InsertFault.{InsertFault}
+use Rattle.art_steps.specs.declared.faults.InsertRefusal.TheVariants.{OutOfMemory}
+use Rattle.art_steps.specs.declared.place.Place.{Place}
 
 module _ {K V : Type 0} {P : ℕ} (text : K → List ℕ) where
   -- the leaf has this text in the one tree of the arena

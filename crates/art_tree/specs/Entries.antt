@@ -7,8 +7,8 @@ use Rattle.art_bytes.specs.Text.{text_order}
 use Rattle.art_nodes.specs.Leaf.{leaf_key, leaf_value}
 use Rattle.art_nodes.specs.declared.leaf_node.LeafNode.{LeafNode}
 use Rattle.art_arena.specs.Arena.{NodeArena}
-use Rattle.art_tree.specs.Dictionary.{IsEntry, HasEntry}
-use Rattle.art_tree.specs.Refusals.{texts_of}
+use Rattle.art_steps.specs.Dictionary.{IsEntry, HasEntry}
+use Rattle.art_steps.specs.Refusals.{texts_of}
 
 module _ {K V : Type 0} (text : K → List ℕ) where
   -- the entries with this one before the first of a greater text, or in place of the one with its text

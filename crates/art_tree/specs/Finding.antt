@@ -4,12 +4,12 @@ use Rattle.art_nodes.specs.declared.pointers.OpaqueNodePtr.{OpaqueNodePtr}
 use Rattle.art_arena.specs.Arena.{LeafPtr, NodeArena}
 use Rattle.art_arena.specs.Trees.{Tree}
 use Rattle.art_arena.specs.declared.ends.End.{End}
-use Rattle.art_tree.specs.Art.{Art, IsAlone}
-use Rattle.art_tree.specs.Dictionary.{IsEmpty, entry_at}
+use Rattle.art_steps.specs.Art.{Art, IsAlone}
+use Rattle.art_steps.specs.Dictionary.{IsEmpty, entry_at}
 use Rattle.art_tree.specs.Dropping.{IsAtPath}
-use Rattle.art_tree.specs.Ends.{EndMeets}
-use Rattle.art_tree.specs.Search.{leaf_pointer}
-use Rattle.art_tree.specs.declared.path.TreePath.{TreePath}
+use Rattle.art_steps.specs.Ends.{EndMeets}
+use Rattle.art_search.specs.Search.{leaf_pointer}
+use Rattle.art_search.specs.declared.path.TreePath.{TreePath}
 
 module _ {K V : Type 0} {P : ℕ} (text : K → List ℕ) where
   -- the leaf with this text is at the end of this path in the one tree of an arena, which stands at the root

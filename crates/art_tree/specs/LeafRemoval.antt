@@ -3,10 +3,10 @@ use Rattle.std.specs.Prelude.{◌≡◌, ℕ, ◌+◌, List, Some, Result, IfOk,
 use Rattle.art_header.specs.declared.node_type.NodeType.{NodeType}
 use Rattle.art_nodes.specs.declared.pointers.OpaqueNodePtr.{OpaqueNodePtr}
 use Rattle.art_arena.specs.Arena.{NodeArena, SameNodes}
-use Rattle.art_tree.specs.Art.{Art}
-use Rattle.art_tree.specs.Dictionary.{entry_at, SameEntries}
-use Rattle.art_tree.specs.Removal.{IsLeft, NeedsSmallerNode}
-use Rattle.art_tree.specs.Room.{FreesOneEach, GrowsOnlyWhere, HasEntryRoom, LacksRoomToRemove}
+use Rattle.art_steps.specs.Art.{Art}
+use Rattle.art_steps.specs.Dictionary.{entry_at, SameEntries}
+use Rattle.art_steps.specs.Removal.{IsLeft, NeedsSmallerNode}
+use Rattle.art_steps.specs.Room.{FreesOneEach, GrowsOnlyWhere, HasEntryRoom, LacksRoomToRemove}
 
 module _ {K V : Type 0} {P : ℕ} (text : K → List ℕ) where
   -- the entry of this text is removed from a tree and returned; or the removal is refused where the

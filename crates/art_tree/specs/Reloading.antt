@@ -3,10 +3,10 @@ use Rattle.std.specs.Prelude.{◌≡◌, ℕ, List, map, Some}
 use Rattle.art_nodes.specs.declared.pointers.OpaqueNodePtr.{OpaqueNodePtr}
 use Rattle.art_arena.specs.Arena.{LeafPtr, NodeArena}
 use Rattle.art_arena.specs.Trees.{Tree}
-use Rattle.art_tree.specs.Art.{IsAlone, IsArt}
-use Rattle.art_tree.specs.Dictionary.{SameEntries}
-use Rattle.art_tree.specs.Loading.{leaf_pointers}
-use Rattle.art_tree.specs.Search.{leaf_pointer}
+use Rattle.art_steps.specs.Art.{IsAlone, IsArt}
+use Rattle.art_steps.specs.Dictionary.{SameEntries}
+use Rattle.art_steps.specs.Loading.{leaf_pointers}
+use Rattle.art_search.specs.Search.{leaf_pointer}
 
 module _ {K V : Type 0} {P : ℕ} (text : K → List ℕ) where
   -- these are the leaves of the tree at the root, from left to right

@@ -9,10 +9,10 @@ use Rattle.art_nodes.specs.contracts.pointers.OpaqueNodePtr as pointer
 use Rattle.art_arena.specs.Arena.{NodeArena, HeldLeaf, Changes, SameNodes, SameRoom, held}
 use Rattle.art_arena.specs.Lending.{arena_row}
 use Rattle.art_arena.specs.Links.{with_value_at}
-use Rattle.art_tree.specs.Art.{Art, IsArt}
-use Rattle.art_tree.specs.Dictionary.{HasKeys, SameEntries, SameOtherEntries, entry_at}
-use Rattle.art_tree.specs.Leaves.{KeepsOtherLeaves}
-use Rattle.art_tree.specs.Room.{GrowsOnlyWhere, LacksRoomToInsert}
+use Rattle.art_steps.specs.Art.{Art, IsArt}
+use Rattle.art_steps.specs.Dictionary.{HasKeys, SameEntries, SameOtherEntries, entry_at}
+use Rattle.art_steps.specs.Leaves.{KeepsOtherLeaves}
+use Rattle.art_steps.specs.Room.{GrowsOnlyWhere, LacksRoomToInsert}
 use Rattle.art_tree.specs.contracts.tree.Rooted.{the_row}
 
 -- the type of a tree with its arena, as the logic names it

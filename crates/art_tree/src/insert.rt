@@ -1,78 +1,19 @@
 //! Insertion: a new entry in a tree, or a new entry with the key bytes of an old one.
 ghost use Rattle.std.specs.Prelude.{◌≡◌, ◌<◌, ◌^◌, length, Some, None, Ok, Err, IfSome};
 ghost use Rattle.std.specs.Option.{option_map};
-ghost use Rattle.art_tree.specs.Art.{IsArt, IsAlone};
-ghost use Rattle.art_tree.specs.Insertion.{AddsEntry, InsertsNew};
-ghost use Rattle.art_tree.specs.Places.{Belongs, LacksChild, Parts, present_leaf};
-ghost use Rattle.art_tree.specs.Search.{EachTree};
-ghost use Rattle.art_tree.specs.declared.insert.InsertRefusal.TheVariants.{OutOfMemory};
+ghost use Rattle.art_steps.specs.Art.{IsArt, IsAlone};
+ghost use Rattle.art_steps.specs.Insertion.{AddsEntry, InsertsNew};
+ghost use Rattle.art_steps.specs.Places.{Belongs, LacksChild, Parts, present_leaf};
+ghost use Rattle.art_search.specs.Search.{EachTree};
+ghost use Rattle.art_steps.specs.declared.faults.InsertRefusal.TheVariants.{OutOfMemory};
 
-mod added_child;
-mod link;
-mod reserving;
-
-use crate::insert::added_child::{add_child, fork_node, is_full, trim};
-use crate::insert::link::link_leaf;
-use crate::insert::reserving::{reserve_for_child, reserve_for_fork};
-use crate::node::hang;
-use crate::place::{Mismatch, Place, Spot, leaf_beside_child, near_end};
 use art_arena::{LeafPtr, NodeArena, end_leaf};
 use art_bytes::AsBytes;
 use art_nodes::{LeafNode, OpaqueNodePtr};
-use std::error::Error;
-use std::fmt;
-
-/// Why [`ArtTree::insert`](crate::ArtTree::insert) refuses an entry. See [`InsertFault`] for an
-/// example.
-#[derive(Clone, Copy, Debug, PartialEq, Eq)]
-pub enum InsertRefusal {
-    /// The key has 2^32 bytes or more.
-    KeyTooLong,
-    /// The key is a proper prefix of a key in the tree, or a key in the tree is a proper prefix of
-    /// it.
-    Prefix,
-    /// An allocation failed. The key is not at fault, and no entry has its bytes.
-    OutOfMemory,
-}
-
-impl fmt::Display for InsertRefusal {
-    ghost use Rattle.std.specs.Prelude.{Some};
-    ghost use Rattle.art_tree.specs.RefusalTexts.{insert_refusal_text};
-
-    ghost output = { λ refusal. Some (insert_refusal_text refusal) };
-
-    fn fmt<W: fmt::Write>(&self, f: &mut fmt::Formatter<W>) -> fmt::Result {
-        match self {
-            InsertRefusal::KeyTooLong => write!(f, "key too long"),
-            InsertRefusal::Prefix => write!(f, "one key is a prefix of the other"),
-            InsertRefusal::OutOfMemory => write!(f, "out of memory"),
-        }
-    }
-}
-
-impl Error for InsertRefusal {}
-
-/// A refused entry, and why it was refused.
-///
-/// An insert of a key that is a proper prefix of another one returns key and value:
-///
-/// (from crates/art_tree_tests/src/tree/changes.rt)
-/// ```rust
-/// let Err(fault) = tree.insert(String::from_str(alloc, text)?, 9) else {
-///     panic!(rt; "inserted");
-/// };
-/// assert!(rt; fault.refusal == InsertRefusal::Prefix);
-/// assert!(rt; fault.key.as_bytes() == text.as_bytes() && fault.value == 9);
-/// ```
-#[derive(Drop)]
-pub struct InsertFault<K, V> {
-    /// Why the entry was refused.
-    pub refusal: InsertRefusal,
-    /// The key.
-    pub key: K,
-    /// The value.
-    pub value: V,
-}
+use art_steps::{
+    InsertFault, InsertRefusal, Mismatch, Place, Spot, add_child, fork_node, hang, is_full,
+    leaf_beside_child, link_leaf, near_end, reserve_for_child, reserve_for_fork, trim,
+};
 
 /// The root of a tree, and a place in it.
 pub(crate) type RootAndPlace<K, V, const PREFIX_LEN: usize> = (

@@ -11,16 +11,16 @@ ghost use Rattle.art_arena.specs.Arena.{NodeArena, HeldLeaf, held, leaf_count, S
 ghost use Rattle.art_arena.specs.Links.{AreDistinct, Spells};
 ghost use Rattle.art_arena.specs.Standing.{StandsIn};
 ghost use Rattle.art_arena.specs.Trees.{Tree, leaves, places, texts, IsSound, IsWellFormed, SameButPointers};
-ghost use Rattle.art_tree.specs.Art.{IsAlone, IsArt};
-ghost use Rattle.art_tree.specs.Contexts.{Context, plug, path_to, leaves_before, leaves_after, IsExchanged};
-ghost use Rattle.art_tree.specs.Dictionary.{entry_at, Clashes, HasEntry, HasKeys, IsEmpty, IsEntry, SameEntries, SameOtherEntries};
+ghost use Rattle.art_steps.specs.Art.{IsAlone, IsArt};
+ghost use Rattle.art_steps.specs.Contexts.{Context, plug, path_to, leaves_before, leaves_after, IsExchanged};
+ghost use Rattle.art_steps.specs.Dictionary.{entry_at, Clashes, HasEntry, HasKeys, IsEmpty, IsEntry, SameEntries, SameOtherEntries};
 ghost use Rattle.art_tree.specs.Entries.{AreEntries, entries_of, put_entry, without_text};
-ghost use Rattle.art_tree.specs.Insertion.{ClashesIn};
-ghost use Rattle.art_tree.specs.Loading.{HasSmallestKinds, IsLoaded};
-ghost use Rattle.art_tree.specs.NodeCounts.{nodes_of};
-ghost use Rattle.art_tree.specs.Refusals.{texts_of};
-ghost use Rattle.art_tree.specs.Room.{HasEntryRoom, LacksRoomToInsert, LacksRoomToRemove};
-ghost use Rattle.art_tree.specs.Search.{met};
+ghost use Rattle.art_steps.specs.Insertion.{ClashesIn};
+ghost use Rattle.art_steps.specs.Loading.{HasSmallestKinds, IsLoaded};
+ghost use Rattle.art_steps.specs.NodeCounts.{nodes_of};
+ghost use Rattle.art_steps.specs.Refusals.{texts_of};
+ghost use Rattle.art_steps.specs.Room.{HasEntryRoom, LacksRoomToInsert, LacksRoomToRemove};
+ghost use Rattle.art_search.specs.Search.{met};
 
 pub use art_arena::laws::{
     allocating_keeps_lists_spelled, allocating_leaves_trees_standing,

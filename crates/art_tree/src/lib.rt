@@ -5,24 +5,20 @@
 //! this one alone.
 #![tactic(auto)]
 
-mod faults;
-mod find;
 mod insert;
 pub mod laws;
 mod loading;
-mod node;
-mod path;
-mod place;
 mod remove;
 mod tree;
 
 pub use art_arena::{
-    AnyInnerRef, AnyNodeRef, ArenaInnerNode, ArenaNode, ArenaReader, End, ExplicitMismatch,
-    FullPrefix, InnerRef, LeafLinks, LeafPtr, NodeArena, NodePrefix, NodeRef, any_leaf, end_leaf,
+    AnyInnerRef, AnyNodeRef, ArenaInnerNode, ArenaNode, ArenaReader, End, InnerRef, LeafPtr,
+    NodeArena, NodeRef, any_leaf, end_leaf,
 };
 pub use art_bytes::{
     AsBytes, CStringKey, CStringKeyError, NoPrefixesBytes, OrderedBytes, SliceKey, StrKey,
 };
+pub use art_links::{ExplicitMismatch, FullPrefix, LeafLinks, NodePrefix};
 // Values as keys.
 pub use art_mapped::{
     BorrowedMapping, BytesMapping, ConcatTuple, Domain, DomainTexts, Element, Escaped, EscapedKey,
@@ -40,9 +36,9 @@ pub use art_nodes::{
     PessimisticMismatch, PrefixMatch, Replayed, Sequence, TryFromByteError, common_prefix_len,
     replay, valid_range_bounds, with_node,
 };
-pub use find::find_leaf;
-pub use insert::{InsertFault, InsertRefusal};
-pub use loading::{LoadFault, LoadRefusal, load};
-pub use path::{TreePath, TreePathSearch};
-pub use place::{Side, leaf_beside, leaves_beside};
+pub use art_search::{TreePath, TreePathSearch, find_leaf};
+pub use art_steps::{
+    InsertFault, InsertRefusal, LoadFault, LoadRefusal, Side, leaf_beside, leaves_beside,
+};
+pub use loading::load;
 pub use tree::{ArtTree, HoldsOneTree, Rooted};

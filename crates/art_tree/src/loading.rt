@@ -4,51 +4,21 @@ ghost use Rattle.art_header.specs.declared.node_type.NodeType.TheVariants as Nod
 ghost use Rattle.art_nodes.specs.declared.pointers.OpaqueNodePtr.{OpaqueNodePtr as Pointer};
 ghost use Rattle.art_arena.specs.Arena.{room, SameNodes};
 ghost use Rattle.art_arena.specs.Trees.{Tree};
-ghost use Rattle.art_tree.specs.Plan.{AreLoadable, IsPlanOf, needed};
-ghost use Rattle.art_tree.specs.Refusals.{HaveNoFault, IsDue, texts_of};
-ghost use Rattle.art_tree.specs.declared.loading.check.LoadRefusal.TheVariants.{OutOfMemory};
-ghost use Rattle.art_tree.specs.Loading.{IsLoaded};
+ghost use Rattle.art_steps.specs.Plan.{AreLoadable, IsPlanOf, needed};
+ghost use Rattle.art_steps.specs.Refusals.{HaveNoFault, IsDue, texts_of};
+ghost use Rattle.art_steps.specs.declared.check.LoadRefusal.TheVariants.{OutOfMemory};
+ghost use Rattle.art_steps.specs.Loading.{IsLoaded};
 
-mod check;
-mod keys;
 mod leaves;
-mod raise;
 mod reloading;
-mod steps;
 
-use crate::loading::check::refusal_of;
-use crate::loading::keys::KeyIn;
 use crate::loading::leaves::link_leaves;
-use crate::loading::raise::raise;
-use crate::loading::steps::{Step, count_nodes, plan};
 use art_arena::{LeafPtr, NodeArena};
 use art_bytes::AsBytes;
 use art_nodes::{NodeType, OpaqueNodePtr};
-pub use check::LoadRefusal;
+use art_steps::{KeyIn, LoadFault, LoadRefusal, Step, count_nodes, plan, raise, refusal_of};
 pub(crate) use reloading::reload;
 use std::alloc::{AllocError, Global};
-
-/// A refused load: why, and the entries, unchanged. They can be loaded again:
-///
-/// (from tests/art_tree_tests/tree/refusals.rt.txt)
-/// ```rust
-/// let fault = match ArtTree::load(alloc, entries) {
-///     Ok(tree) => return Ok(tree),
-///     Err(fault) => fault,
-/// };
-/// assert!(rt; fault.refusal == LoadRefusal::OutOfMemory);
-/// // ..
-/// let Ok(tree) = ArtTree::load(alloc, fault.entries) else {
-///     panic!(rt; "refused twice");
-/// };
-/// ```
-#[derive(Drop)]
-pub struct LoadFault<K, V> {
-    /// Why the entries were not loaded.
-    pub refusal: LoadRefusal,
-    /// The entries, in their order.
-    pub entries: Vec<(K, V)>,
-}
 
 // What a load needs besides the arena: the steps, and memory for the leaves and the pending trees.
 struct Prepared<K, V, const PREFIX_LEN: usize> {

@@ -5,23 +5,22 @@ ghost use Rattle.art_nodes.specs.Inner.{Inner};
 ghost use Rattle.art_nodes.specs.Pointers.{slab_key};
 ghost use Rattle.art_arena.specs.Arena.{held, HeldInner};
 ghost use Rattle.art_arena.specs.Links.{Spells};
-ghost use Rattle.art_tree.specs.Art.{IsAlone};
-ghost use Rattle.art_tree.specs.Cuts.{TellsFewest};
+ghost use Rattle.art_steps.specs.Art.{IsAlone};
+ghost use Rattle.art_steps.specs.Cuts.{TellsFewest};
 ghost use Rattle.art_tree.specs.Dropping.{IsAtPath, IsLeafSpot, IsTaken};
 ghost use Rattle.art_tree.specs.Finding.{ReachesLeaf};
-ghost use Rattle.art_tree.specs.Removal.{RemovesEntry, RemovesFreely};
-ghost use Rattle.art_tree.specs.Search.{leaf_pointer};
-ghost use Rattle.art_tree.specs.declared.path.TreePath.TheVariants.{Root};
+ghost use Rattle.art_steps.specs.Removal.{RemovesEntry, RemovesFreely};
+ghost use Rattle.art_search.specs.Search.{leaf_pointer};
+ghost use Rattle.art_search.specs.declared.path.TreePath.TheVariants.{Root};
 
 pub(crate) mod end_place;
-mod removed_child;
 
-use crate::node::{hang, num_children};
-use crate::path::TreePath;
-use crate::remove::removed_child::{join_prefix, other_child, reserve_shrink, take_child};
-use art_arena::{LeafLinks, LeafPtr, NodeArena};
+use art_arena::{LeafPtr, NodeArena};
 use art_bytes::AsBytes;
+use art_links::LeafLinks;
 use art_nodes::{LeafNode, NodeType, OpaqueNodePtr};
+use art_search::TreePath;
+use art_steps::{hang, join_prefix, num_children, other_child, reserve_shrink, take_child};
 use std::alloc::AllocError;
 
 /// The root that is left of a tree, if there is one, and the entry that was removed.

@@ -2,8 +2,8 @@
 ghost use Rattle.std.specs.Prelude.{◌≡◌, None};
 ghost use Rattle.std.specs.declared.alloc.Global.{Global};
 ghost use Rattle.art_arena.specs.Arena.{room};
-ghost use Rattle.art_tree.specs.Art.{IsArt};
-ghost use Rattle.art_tree.specs.Dictionary.{HasKeys, IsEmpty};
+ghost use Rattle.art_steps.specs.Art.{IsArt};
+ghost use Rattle.art_steps.specs.Dictionary.{HasKeys, IsEmpty};
 
 mod all_entries;
 mod changes;
@@ -11,10 +11,10 @@ mod ends;
 mod reading;
 mod room;
 
-use crate::path::TreePath;
 use art_arena::{LeafPtr, NodeArena};
 use art_bytes::AsBytes;
 use art_nodes::OpaqueNodePtr;
+use art_search::TreePath;
 use std::alloc::Global;
 use std::marker::Model;
 
@@ -30,8 +30,8 @@ pub trait HoldsOneTree<R>: Sized {
 
 impl<K: AsBytes, V, const PREFIX_LEN: usize> HoldsOneTree<OpaqueNodePtr<K, V, PREFIX_LEN>>
     for NodeArena<K, V, PREFIX_LEN> {
-    ghost use Rattle.art_tree.specs.Art.{IsArt};
-    ghost use Rattle.art_tree.specs.Dictionary.{HasKeys};
+    ghost use Rattle.art_steps.specs.Art.{IsArt};
+    ghost use Rattle.art_steps.specs.Dictionary.{HasKeys};
 
     ghost holds_one_tree = { λ arena root.
         IsArt K.text arena root × HasKeys K.text K.is_key arena };
@@ -47,7 +47,7 @@ pub struct Rooted<A: HoldsOneTree<R>, R> {
 }
 
 impl<A: HoldsOneTree<R>, R> Model for Rooted<A, R> {
-    ghost use Rattle.art_tree.specs.Art.{Art};
+    ghost use Rattle.art_steps.specs.Art.{Art};
 
     ghost Value = { Art A R };
 

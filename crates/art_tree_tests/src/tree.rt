@@ -6,7 +6,7 @@ mod reserving;
 mod tree_examples;
 
 ghost use Rattle.std.specs.Prelude.{IfOk};
-ghost use Rattle.art_tree.specs.Search.{HasTree};
+ghost use Rattle.art_search.specs.Search.{HasTree};
 
 use art_tree::{
     ArenaReader, ArtTree, AsBytes, InnerNodeCommon, InnerNodeRead, NodeArena, NodeType,

@@ -1,7 +1,7 @@
 //! Entries that go into a tree one by one, once memory for all of them is reserved.
 ghost use Rattle.std.specs.Prelude.{◌≢◌, ◌+◌, ℕ, IfErr, IfOk};
-ghost use Rattle.art_tree.specs.Room.{HasEntryRoom};
-ghost use Rattle.art_tree.specs.declared.insert.InsertRefusal.TheVariants.{OutOfMemory};
+ghost use Rattle.art_steps.specs.Room.{HasEntryRoom};
+ghost use Rattle.art_steps.specs.declared.faults.InsertRefusal.TheVariants.{OutOfMemory};
 
 use art_tree::{ArtTree, AsBytes, InsertFault};
 use std::alloc::AllocError;

@@ -4,10 +4,10 @@ ghost use Rattle.std.specs.Option.{option_map};
 ghost use Rattle.art_nodes.specs.Pointers.{slab_key};
 ghost use Rattle.art_arena.specs.Links.{HoldsLeaf};
 ghost use Rattle.art_arena.specs.Trees.{leaves};
-ghost use Rattle.art_tree.specs.Art.{IsAlone};
-ghost use Rattle.art_tree.specs.Search.{leaf_pointer};
-ghost use Rattle.art_tree.specs.Sides.{IsNextTo};
-ghost use Rattle.art_tree.specs.declared.place.Side.{Side};
+ghost use Rattle.art_steps.specs.Art.{IsAlone};
+ghost use Rattle.art_search.specs.Search.{leaf_pointer};
+ghost use Rattle.art_steps.specs.Sides.{IsNextTo};
+ghost use Rattle.art_steps.specs.declared.place.Side.{Side};
 ghost use Rattle.art_routes.specs.Keys.{key_text};
 ghost use Rattle.art_routes.specs.NearestLeaves.{IsNearest};
 

@@ -1,7 +1,7 @@
 //! The ends of the leaves between two sides of keys.
 ghost use Rattle.std.specs.Prelude.{◌≡◌, filter};
 ghost use Rattle.art_tree.specs.Entries.{entries_of};
-ghost use Rattle.art_tree.specs.Sides.{is_before};
+ghost use Rattle.art_steps.specs.Sides.{is_before};
 ghost use Rattle.art_routes.specs.Keys.{key_text};
 ghost use Rattle.art_routes.specs.NearestLeaves.{is_between};
 ghost use Rattle.art_routes.specs.LeafRuns.{run_entries, IsRun};

@@ -1,15 +1,15 @@
 -- Insertion: a new inner node over a new leaf and the node from which its key differs.
 use Rattle.art_tree.proofs.Names.{◌≡◌, ◌≢◌, ◌∙◌, ℕ, ◌+◌, ◌-◌, ◌<◌, ◌≤◌, ◌^◌, Bool, true, false, nat_lt, if◌then◌else◌, List, [], ◌∷◌, ◌++◌, length, length-append, take, drop, All, AllPairs, Contains, Some, refl, sym, ap, subst, inl, inr, arith, append-nil, slice_get_within, All-contains, Contains-append_right, Less, IsPrefixOf, text_order, StandsFor, capped, kind_for, header_of, InnerNode, leaf_key, node_kind, opaque_key, opaque_pointer, OpaqueNodePtr, LeafNode, NodeArena, Held, HeldInner, HeldLeaf, Nothing, held, Changes, SameNodes, AreDistinct, HoldsLeaf, Spells, text_at, NodeStands, StandsIn, AllStandIn, TreeAt, Tree, Leaf, Inner, Branches, branch_roots, root_of, leaves, branch_leaves, texts, places, branch_places, IsSound, IsAlone, IsArt, Context, plug, path_to, leaves_before, leaves_after, HasGap, HoldsEntry, IsBeside, LiesBeside, StaysAt, two_children, IsAtEnd, CanHang, IsHung, StandsBeside, IsEntered, above, Parts, IsPlaced, node_of, node_with_prefix, End, First, Last, Mismatch, Spot, leaf_kind, one-inner, LeafKind, Node4}
-use Rattle.art_tree.proofs.InsertLemmas.AddedLeaf.{AreSteps, HasTaken, below-kept, can-hang, last-others, leaves-kept, tree-added}
-use Rattle.art_tree.proofs.SharedLemmas.BranchLemmas.{leaves-join, one_branch}
-use Rattle.art_tree.proofs.SharedLemmas.ChangedTree.{place-held, root-place}
-use Rattle.art_tree.proofs.SharedLemmas.DictionaryLemmas.{AreApart, end-in, leaf-held-in}
-use Rattle.art_tree.proofs.SharedLemmas.ExchangedSubtree.{distinct-part, kept-branches, sound-part, smallest_kinds-part, stands-part}
-use Rattle.art_tree.proofs.InsertLemmas.GapLemmas.{beside-key, gap, keys_of, lies, spelled-parts}
-use Rattle.art_tree.proofs.SharedLemmas.ExchangedTree.{alone-same}
-use Rattle.art_tree.proofs.InsertLemmas.SubtreeLemmas.{HasForkPlace, fork-place, in-taken, leaves-sides, leaves-trimmed, places-sides, places-trimmed, smallest_kinds-sides, smallest_kinds-taken, smallest_kinds-trimmed, both-sides, ltrimmed, branches_left, branches_right}
-use Rattle.art_tree.proofs.PlaceLemmas.TextsBelow.{branch-text-begins}
-use Rattle.art_tree.proofs.SharedLemmas.HeldNodes.{cases_pointer, text-held}
+use Rattle.art_steps.proofs.InsertLemmas.AddedLeaf.{AreSteps, HasTaken, below-kept, can-hang, last-others, leaves-kept, tree-added}
+use Rattle.art_steps.proofs.SharedLemmas.BranchLemmas.{leaves-join, one_branch}
+use Rattle.art_steps.proofs.SharedLemmas.ChangedTree.{place-held, root-place}
+use Rattle.art_steps.proofs.SharedLemmas.DictionaryLemmas.{AreApart, end-in, leaf-held-in}
+use Rattle.art_steps.proofs.SharedLemmas.ExchangedSubtree.{distinct-part, kept-branches, sound-part, smallest_kinds-part, stands-part}
+use Rattle.art_steps.proofs.InsertLemmas.GapLemmas.{beside-key, gap, keys_of, lies, spelled-parts}
+use Rattle.art_steps.proofs.SharedLemmas.ExchangedTree.{alone-same}
+use Rattle.art_steps.proofs.InsertLemmas.SubtreeLemmas.{HasForkPlace, fork-place, in-taken, leaves-sides, leaves-trimmed, places-sides, places-trimmed, smallest_kinds-sides, smallest_kinds-taken, smallest_kinds-trimmed, both-sides, ltrimmed, branches_left, branches_right}
+use Rattle.art_steps.proofs.PlaceLemmas.TextsBelow.{branch-text-begins}
+use Rattle.art_links.proofs.HeldNodes.{cases_pointer, text-held}
 
 module _ {H : Type 0} where
   -- the leaf at the end of a tree on whose side a byte lies is beside the gap there

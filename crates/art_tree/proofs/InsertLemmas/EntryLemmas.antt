@@ -1,11 +1,11 @@
 -- Insertion: a new text and the entries that are there.
 use Rattle.art_tree.proofs.Names.{LeafPtr, ◌≡◌, ◌≢◌, ◌⊎◌, ◌∙◌, ℕ, suc, ◌<◌, ◌^◌, List, [], ◌∷◌, ◌++◌, map, length, take, Contains, Option, Some, None, Result, Ok, Err, IfOk, IfErr, OnOk, OnErr, refl, sym, ap, subst, inl, inr, arith, append-nil, cases_eq, eq-eqb, ne_eqb, Contains-append_right, Contains-append_cases, IsPrefixOf, NodeType, child_at, OpaqueNodePtr, NodeArena, Nothing, capacity, held, SameNodes, SameRoom, Tree, Leaf, Branches, NoBranch, Branch, branch_roots, root_of, leaves, branch_leaves, texts, IsSound, AreSound, IsWellFormed, IsAlone, IsArt, Context, plug, path_to, leaves_before, leaves_after, entry_at, HasEntry, IsProperPrefixOf, Clashes, SameEntries, HoldsEntry, AddsEntry, ClashesIn, InsertsNew, IsEntered, IsRefused, IsSpot, LacksChild, Parts, present_leaf, reach, LacksRoomToInsert, leaf_pointer, OutOfMemory, Mismatch, Spot, prefix-on, by_option, the_one, InsertFault, Place}
-use Rattle.art_tree.specs.declared.insert.InsertRefusal.{InsertRefusal}
-use Rattle.art_tree.specs.declared.place.Place.TheVariants as places
-use Rattle.art_tree.proofs.SharedLemmas.DictionaryLemmas.{AreApart, after-first, empty-entry, held-entry, leaf-held-in, leaf-of-entry, leaf-with}
-use Rattle.art_tree.proofs.SharedLemmas.ExchangedSubtree.{leaves-plug, sound-part, sound-whole}
-use Rattle.art_tree.proofs.PlaceLemmas.TextsBelow.{text-begins, text-reaches}
-use Rattle.art_tree.proofs.SharedLemmas.PrefixLemmas.{key-on}
+use Rattle.art_steps.specs.declared.faults.InsertRefusal.{InsertRefusal}
+use Rattle.art_steps.specs.declared.place.Place.TheVariants as places
+use Rattle.art_steps.proofs.SharedLemmas.DictionaryLemmas.{AreApart, after-first, empty-entry, held-entry, leaf-held-in, leaf-of-entry, leaf-with}
+use Rattle.art_steps.proofs.SharedLemmas.ExchangedSubtree.{leaves-plug, sound-part, sound-whole}
+use Rattle.art_steps.proofs.PlaceLemmas.TextsBelow.{text-begins, text-reaches}
+use Rattle.art_steps.proofs.SharedLemmas.PrefixLemmas.{key-on}
 
 -- neither text is a prefix of the other
 abbrev pub IsApart : List ℕ → List ℕ → Type 0

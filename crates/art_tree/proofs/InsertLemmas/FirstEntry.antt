@@ -1,9 +1,9 @@
 -- Insertion: the first entry of a tree, and an entry that replaces another.
 use Rattle.art_tree.proofs.Names.{LeafPtr, LeafKind, ◌≡◌, ◌≢◌, ◌∙◌, ℕ, length, ◌<◌, ◌^◌, List, [], ◌∷◌, Contains, Some, None, inl, inr, refl, sym, ap, arith, Option, All-cons, All-nil, leaf_key, leaf_value, previous_key, next_key, slab_key, opaque_pointer, OpaqueNodePtr, LeafNode, NodeArena, HeldLeaf, Nothing, held, Changes, held_leaf, leaf_at, Tree, Leaf, leaves, IsAlone, IsArt, KeepsAt, entry_at, IsEntered, leaf_pointer, by_option, the_one, spells-exchanged, stands-exchanged}
-use Rattle.art_tree.proofs.SharedLemmas.DictionaryLemmas.{AreApart, empty-entry, held-entry, leaf-held-in, leaf-of-entry}
-use Rattle.art_tree.proofs.SharedLemmas.ExchangedTree.{entries-but}
-use Rattle.art_tree.proofs.InsertLemmas.NodeLemmas.{one-leaf, some-leaf}
-use Rattle.art_tree.proofs.SharedLemmas.HeldNodes.{cases_pointer, leaf-of}
+use Rattle.art_steps.proofs.SharedLemmas.DictionaryLemmas.{AreApart, empty-entry, held-entry, leaf-held-in, leaf-of-entry}
+use Rattle.art_steps.proofs.SharedLemmas.ExchangedTree.{entries-but}
+use Rattle.art_steps.proofs.InsertLemmas.NodeLemmas.{one-leaf, some-leaf}
+use Rattle.art_links.proofs.HeldNodes.{cases_pointer, leaf-of}
 use Rattle.art_tree.proofs.SharedLemmas.TreeLaws.{apart-there}
 
 module _ {K V : Type 0} {P : ℕ} (text : K → List ℕ) (old new : NodeArena K V P) (key : K) (value : V) where

@@ -1,11 +1,11 @@
 -- The nodes that a tree needs for a child more.
 use Rattle.art_tree.proofs.Names.{◌≡◌, ◌≢◌, ◌∙◌, ℕ, ◌+◌, ◌<◌, ◌^◌, List, length, Some, sym, ap, subst, inl, inr, arith, kind_for, most_children, grown_kind, NodeType, IsAscending, key_bytes, child_at, node_kind, OpaqueNodePtr, NodeArena, room, branch_roots, texts, plug, join, one_if_same, nodes_of, branch_nodes_of, LacksRoomForChild, LacksRoomToInsert, Spot, LeafKind, Node256}
-use Rattle.art_tree.proofs.InsertLemmas.AddedChild.{ChildSpot, alone-there, around_it, gap-there, is-there, leaves-there, node-is, node_there, shown-there, smallest_kinds-there, sound-there, there-inner}
+use Rattle.art_steps.proofs.InsertLemmas.AddedChild.{ChildSpot, alone-there, around_it, gap-there, is-there, leaves-there, node-is, node_there, shown-there, smallest_kinds-there, sound-there, there-inner}
 use Rattle.art_tree.proofs.InsertLemmas.NeededNodes.{insert-lacks, nodes-taken}
-use Rattle.art_tree.proofs.InsertLemmas.NodeLemmas.{few-where-absent}
-use Rattle.art_tree.proofs.InsertLemmas.SubtreeLemmas.{with_leaf}
-use Rattle.art_tree.proofs.SharedLemmas.NodeKinds.{kind-grows}
-use Rattle.art_tree.proofs.SharedLemmas.DictionaryLemmas.{AreApart}
+use Rattle.art_steps.proofs.InsertLemmas.NodeLemmas.{few-where-absent}
+use Rattle.art_steps.proofs.InsertLemmas.SubtreeLemmas.{with_leaf}
+use Rattle.art_steps.proofs.SharedLemmas.NodeKinds.{kind-grows}
+use Rattle.art_steps.proofs.SharedLemmas.DictionaryLemmas.{AreApart}
 use Rattle.art_tree.proofs.SharedLemmas.NodeCounts.{grown-other, no-leaf-kind, one-same}
 
 module _ {K V : Type 0} {P : ℕ} {text : K → List ℕ} {old : NodeArena K V P} {root : OpaqueNodePtr K V P} {spot : Spot K V P} {byte : ℕ} {key : K} (child_spot : ChildSpot text old root spot byte key) (short : length (text key) < 2 ^ 32)

@@ -2,8 +2,8 @@
 use Rattle.art_tree.proofs.Names.{◌≡◌, ℕ, ◌+◌, ◌<◌, ◌^◌, List, length, Some, refl, sym, ap, subst, inl, inr, arith, kind_for, NodeType, OpaqueNodePtr, NodeArena, room, Tree, Leaf, Inner, branch_roots, texts, plug, join, one_if_same, nodes_of, branch_nodes_of, LacksRoomForFork, LacksRoomToInsert, Mismatch, Spot, LeafKind, Node4}
 use Rattle.art_tree.proofs.InsertLemmas.AddedFork.{ForkPoint, alone-there, around_it, fork-there, leaves-there, left_there, len_there, part_there, right_there, shared_there, trimmed_there}
 use Rattle.art_tree.proofs.InsertLemmas.NeededNodes.{insert-lacks, nodes-taken}
-use Rattle.art_tree.proofs.InsertLemmas.SubtreeLemmas.{both-sides, ltrimmed, with_leaf}
-use Rattle.art_tree.proofs.SharedLemmas.DictionaryLemmas.{AreApart}
+use Rattle.art_steps.proofs.InsertLemmas.SubtreeLemmas.{both-sides, ltrimmed, with_leaf}
+use Rattle.art_steps.proofs.SharedLemmas.DictionaryLemmas.{AreApart}
 
 -- a tree without the first bytes of its prefix has the same nodes
 nodes-trimmed : {H : Type 0} (kind : NodeType) (len : ℕ) (part : Tree H) → nodes_of kind (ltrimmed len part) ≡ nodes_of kind part

@@ -1,12 +1,12 @@
 -- The nodes that a tree needs for a leaf more.
 use Rattle.art_tree.proofs.Names.{◌≡◌, ◌⊎◌, ℕ, ◌+◌, ◌<◌, ◌≤◌, ◌^◌, List, [], ◌∷◌, ◌++◌, length, map, Contains, None, Some, refl, sym, ap, subst, inl, inr, arith, IsPrefixOf, kind_for, NodeType, opaque_pointer, OpaqueNodePtr, NodeArena, Nothing, SameCapacity, SameOtherCapacity, held, room, Tree, Leaf, Branches, Branch, branch_roots, leaves, branch_leaves, texts, IsAlone, Context, plug, path_to, leaves_before, leaves_after, join, HasEntry, one_if_same, nodes_of, branch_nodes_of, GrowsOnlyWhere, LacksRoomToInsert, the_one, LeafKind}
-use Rattle.art_tree.proofs.InsertLemmas.AddedLeaf.{leaves-filled, leaves-parted}
-use Rattle.art_tree.proofs.InsertLemmas.SubtreeLemmas.{HasPlace, taken-count, taken-sound, with_leaf}
-use Rattle.art_tree.proofs.SharedLemmas.DictionaryLemmas.{AreApart, empty-entry, entry-of-text, text-of-entry}
-use Rattle.art_tree.proofs.SharedLemmas.ExchangedSubtree.{sound-whole}
+use Rattle.art_steps.proofs.InsertLemmas.AddedLeaf.{leaves-filled, leaves-parted}
+use Rattle.art_steps.proofs.InsertLemmas.SubtreeLemmas.{HasPlace, taken-count, taken-sound, with_leaf}
+use Rattle.art_steps.proofs.SharedLemmas.DictionaryLemmas.{AreApart, empty-entry, entry-of-text, text-of-entry}
+use Rattle.art_steps.proofs.SharedLemmas.ExchangedSubtree.{sound-whole}
 use Rattle.art_tree.proofs.SharedLemmas.NodeCounts.{more-around, nodes-join}
-use Rattle.art_tree.proofs.SharedLemmas.RoomLemmas.{IsAsked, asked-grows, grows-then}
-use Rattle.art_tree.proofs.SharedLemmas.TextLists.{text-new, text-or-new, text-stays}
+use Rattle.art_steps.proofs.SharedLemmas.RoomLemmas.{IsAsked, asked-grows, grows-then}
+use Rattle.art_steps.proofs.SharedLemmas.TextLists.{text-new, text-or-new, text-stays}
 
 abbrev texts_of : {H : Type 0} → List (H × List ℕ) → List (List ℕ)
 texts_of all = map (λ leaf. leaf.1) all

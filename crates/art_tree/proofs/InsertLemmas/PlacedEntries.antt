@@ -1,17 +1,17 @@
 -- An entry that is entered at its place in a tree with its arena.
 use Rattle.art_tree.proofs.Names.{LeafPtr, All-contains, ◌≡◌, ◌+◌, ◌<◌, ◌^◌, ℕ, IfSome, List, None, Result, Some, inl, inr, length, refl, subst, sym, ◌∙◌, ap, Err, Ok, Belongs, present_leaf, EachTree, leaf_pointer, GrowsOnlyWhere, LacksRoomToInsert, HasKeys, entry_at, HeldLeaf, NodeArena, SameCapacity, SameRoom, held, Changes, HoldsLeaf, leaf_at, InsertsNew, IsEntered, MayEnter, IsAlone, IsArt, Art, LeafNode, OpaqueNodePtr, Tree, leaves, texts, image_inside, leaf_key, leaf_value, next_key, previous_key, slab_key, InsertFault, Place, FindsOrInserts, InsertsAt, IsPlaceOf, IsPresent, ReplacesEntry}
-use Rattle.art_tree.specs.Room.{HasEntryRoom}
-use Rattle.art_tree.specs.declared.place.Place.TheVariants as places
-use Rattle.art_tree.proofs.PlaceLemmas.WayPlaces.{leaf-inside}
+use Rattle.art_steps.specs.Room.{HasEntryRoom}
+use Rattle.art_steps.specs.declared.place.Place.TheVariants as places
+use Rattle.art_steps.proofs.PlaceLemmas.WayPlaces.{leaf-inside}
 use Rattle.art_tree.proofs.SharedLemmas.TreeLaws.{apart-there}
-use Rattle.art_tree.proofs.SharedLemmas.ExchangedTree.{art-same}
+use Rattle.art_steps.proofs.SharedLemmas.ExchangedTree.{art-same}
 use Rattle.art_tree.proofs.SharedLemmas.RoomLasts.{enough-to-insert, has-found, lasts-after-insert, lasts-where-kept, no-growth}
-use Rattle.art_tree.proofs.SharedLemmas.DictionaryLemmas.{entry-of-member, leaf-held-in}
+use Rattle.art_steps.proofs.SharedLemmas.DictionaryLemmas.{entry-of-member, leaf-held-in}
 use Rattle.art_tree.proofs.SharedLemmas.KeyLemmas.{keys-entered, keys-same}
 use Rattle.art_tree.proofs.InsertLemmas.EntryLemmas.{no-clash}
-use Rattle.art_tree.proofs.SharedLemmas.RoomLemmas.{same-capacity}
-use Rattle.art_tree.proofs.InsertLemmas.NodeLemmas.{some-leaf, one-leaf}
-use Rattle.art_tree.proofs.SharedLemmas.HeldNodes.{leaf-of}
+use Rattle.art_steps.proofs.SharedLemmas.RoomLemmas.{same-capacity}
+use Rattle.art_steps.proofs.InsertLemmas.NodeLemmas.{some-leaf, one-leaf}
+use Rattle.art_links.proofs.HeldNodes.{leaf-of}
 use Rattle.art_tree.proofs.InsertLemmas.FirstEntry.{replaced-art, replaced-entered}
 
 module _ {K V : Type 0} {P : ℕ} {text : K → List ℕ} {art : Art (NodeArena K V P) (OpaqueNodePtr K V P)} where

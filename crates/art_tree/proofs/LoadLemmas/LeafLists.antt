@@ -1,9 +1,9 @@
 -- Loading: leaves that are linked one after another.
 use Rattle.art_tree.proofs.Names.{LeafPtr, ◌≡◌, ◌≢◌, ◌∙◌, ℕ, zero, suc, ◌+◌, ◌-◌, ◌<◌, List, [], ◌∷◌, ◌++◌, length, length-append, map, take, get_or, slice_get, Some, None, inl, inr, refl, sym, ap, subst, arith, append_assoc, Contains, option_and_then, map-append, length-map, take_all, get_or_at, Contains-append_left, Contains-push_cases, Contains-push, slice_get_within, slice_get-get_or, leaf_key, leaf_value, previous_key, next_key, node_kind, opaque_key, slab_key, opaque_pointer, OpaqueNodePtr, LeafNode, NodeArena, Held, HeldInner, HeldLeaf, Nothing, held, held_leaf, Changes, HoldsLeaf, IsKnit, IsUnlinked, SameButLinks, StandsBetween, Spells, leaf_at, next_at, text_at, text_of_entry, texts_of, leaf_texts, leaf_pointer, HoldEntries, AreLinked, Adds, leaf_place, LeafKind}
-use Rattle.art_tree.proofs.SharedLemmas.PrefixLemmas.{take-get}
-use Rattle.art_tree.proofs.LoadLemmas.PlacedTrees.{adds-more}
-use Rattle.art_tree.proofs.SharedLemmas.HeldNodes.{leaf-of, text-held, kept-at}
-use Rattle.art_tree.proofs.SharedLemmas.SpelledLists.{Spells-kept, AreKnit, NameNext}
+use Rattle.art_steps.proofs.SharedLemmas.PrefixLemmas.{take-get}
+use Rattle.art_steps.proofs.LoadLemmas.PlacedTrees.{adds-more}
+use Rattle.art_links.proofs.HeldNodes.{leaf-of, text-held, kept-at}
+use Rattle.art_steps.proofs.SharedLemmas.SpelledLists.{Spells-kept, AreKnit, NameNext}
 
 -- the keys of leaves
 pub keys-of : {K V : Type 0} {P : ℕ} (of : List (LeafPtr K V P)) → map opaque_key (map (leaf_pointer {K = K} {V = V} {P = P}) of) ≡ map slab_key of

@@ -1,7 +1,7 @@
 -- Loading: the loaded tree, from linked leaves and a tree over them.
 use Rattle.art_tree.proofs.Names.{LeafPtr, ◌≡◌, ◌≢◌, ◌∙◌, ℕ, ◌<◌, ◌^◌, List, [], ◌∷◌, length, map, inl, inr, refl, sym, ap, subst, arith, cases_lt, get_or_past, opaque_key, slab_key, OpaqueNodePtr, NodeArena, Nothing, SameNodes, Spells, Tree, AreLoadable, text_of_entry, IsRaised, leaf_pairs, leaf_pointer, AreLinked, HoldEntries, IsLoaded, leaf_pointers}
 use Rattle.art_tree.proofs.LoadLemmas.LeafLists.{hold-kept, keys-of}
-use Rattle.art_tree.proofs.SharedLemmas.SpelledLists.{Spells-kept}
+use Rattle.art_steps.proofs.SharedLemmas.SpelledLists.{Spells-kept}
 
 -- no text is too long, at any index
 pub all-short : (texts : List (List ℕ)) → AreLoadable texts → (i : ℕ) → length (text_of_entry texts i) < 2 ^ 32

@@ -2,10 +2,10 @@
 use Rattle.art_tree.proofs.Names.{LeafPtr, next-member, knit-member, texts-apart, texts-ascend, ◌≡◌, ◌≢◌, ◌∙◌, ℕ, zero, suc, ◌+◌, ◌<◌, ◌≤◌, ◌^◌, List, [], ◌∷◌, ◌++◌, length, map, take, get_or, slice_get, All, AllPairs, Contains, Option, Some, None, refl, sym, ap, subst, inl, inr, arith, length-append, append_assoc, append-nil, Less, Greater, cases_lt, le-ltb, eqb_tells, get_or-map, length-map, map-append, take_all, take_more, All-nil, All-cons, All-contains, Contains-append_right, same_Some, IsPrefixOf, text_order, leaf_key, leaf_value, opaque_key, opaque_pointer, slab_key, LeafNode, OpaqueNodePtr, NodeArena, Changes, HeldLeaf, Nothing, held, leaf_count, IsAtEnd, AreDistinct, HoldsLeaf, Spells, next_at, text_at, Tree, leaves, texts, First, IsAlone, HasEntry, IsEntry, SameEntries, entry_at, HoldEntries, IsLoaded, leaf_pointers, AreLoadable, Forks, leaf_texts, texts_of, AreLeavesOf, IsReloaded, leaf_pointer, leaf_place, inside_image, LeafKind}
 use Rattle.art_tree.proofs.SharedLemmas.EntryCounts.{spelled-fit}
 use Rattle.art_tree.proofs.LoadLemmas.LeafLists.{hold-last, hold-texts, keys-of}
-use Rattle.art_tree.proofs.LoadLemmas.RefusalLemmas.{fork-later}
-use Rattle.art_tree.proofs.SharedLemmas.DictionaryLemmas.{AreApart, alone-loaded, entry-held, held-entry, leaf-held-in, loaded-entry, loaded-text, text-of-entry}
-use Rattle.art_tree.proofs.PlaceLemmas.WayPlaces.{some-text}
-use Rattle.art_tree.proofs.SharedLemmas.HeldNodes.{text-held}
+use Rattle.art_steps.proofs.LoadLemmas.RefusalLemmas.{fork-later}
+use Rattle.art_steps.proofs.SharedLemmas.DictionaryLemmas.{AreApart, alone-loaded, entry-held, held-entry, leaf-held-in, loaded-entry, loaded-text, text-of-entry}
+use Rattle.art_steps.proofs.PlaceLemmas.WayPlaces.{some-text}
+use Rattle.art_links.proofs.HeldNodes.{text-held}
 
 -- a text that is less than another, and no prefix of it, differs from it at some byte
 forks-apart : (a b : List ℕ) → text_order a b ≡ Less → (IsPrefixOf a b → ⊥) → Forks a b

@@ -1,8 +1,8 @@
 -- Removal: the way to the leaf at an end of a tree.
 use Rattle.art_tree.proofs.Names.{LeafKind, ◌≡◌, ◌∙◌, ℕ, ◌<◌, ◌≤◌, ◌^◌, List, [], ◌∷◌, ◌++◌, length, Some, refl, sym, ap, subst, arith, node_kind, OpaqueNodePtr, NodeArena, HeldInner, HeldLeaf, held, IsAtEnd, end_pair, IsTreeIn, StandsIn, TreeAt, Tree, Leaf, Inner, Branches, NoBranch, Branch, leaves, root_of, IsSound, IsWellFormed, End, First, Last, branches_height, height, lower-child, tree_height, one-inner, Context, Whole, Under, join, path_to, plug, IsAtPath, steps_to, HasVisited, Steps, path_of, TreePath, InnerNode}
-use Rattle.art_tree.proofs.SharedLemmas.EndBranches.{after_end, before_end, end-branch, end-leaves, end-pair, end-sound, end-stands}
-use Rattle.art_tree.proofs.SharedLemmas.ExchangedSubtree.{sound-part, stands-part}
-use Rattle.art_tree.proofs.SharedLemmas.ParentLemmas.{inner-kind}
+use Rattle.art_steps.proofs.SharedLemmas.EndBranches.{after_end, before_end, end-branch, end-leaves, end-pair, end-sound, end-stands}
+use Rattle.art_steps.proofs.SharedLemmas.ExchangedSubtree.{sound-part, stands-part}
+use Rattle.art_steps.proofs.SharedLemmas.ParentLemmas.{inner-kind}
 
 module _ {H : Type 0} where
   -- a branch is no higher than all of them

@@ -1,12 +1,12 @@
 -- The leaf that is found in a tree, with the path to it.
 use Rattle.art_tree.proofs.Names.{LeafPtr, ◌≡◌, ◌∙◌, ℕ, List, ◌∷◌, Option, Some, None, Contains, IfSome, refl, sym, ap, subst, arith, [], Contains-append_right, same_Some, option_map, leaf_key, leaf_value, slab_key, OpaqueNodePtr, LeafNode, NodeArena, HeldLeaf, Nothing, held, held_leaf, HoldsLeaf, leaf_at, IsAtEnd, Tree, Leaf, leaves, End, IsAlone, Art, leaves_before, leaves_after, entry_at, HasEntry, HasLeafAt, IsAtPath, EndMeets, leaf_pointer, scan, found, IsPathTo, TreePath, IsFound, IsLeafOf, ReachesLeaf}
-use Rattle.art_tree.proofs.SharedLemmas.DictionaryLemmas.{end-entry, end-held, end-within, entry-of-member, leaf-held-in, no-entry, scan-in, entry-of-text}
-use Rattle.art_tree.proofs.SharedLemmas.ExchangedSubtree.{leaves-plug}
-use Rattle.art_tree.proofs.SharedLemmas.HeldNodes.{leaf-of}
+use Rattle.art_steps.proofs.SharedLemmas.DictionaryLemmas.{end-entry, end-held, end-within, entry-of-member, leaf-held-in, no-entry, scan-in, entry-of-text}
+use Rattle.art_steps.proofs.SharedLemmas.ExchangedSubtree.{leaves-plug}
+use Rattle.art_links.proofs.HeldNodes.{leaf-of}
 use Rattle.art_tree.proofs.SharedLemmas.TreeLaws.{apart-there, ascend-there}
-use Rattle.art_tree.proofs.InsertLemmas.NodeLemmas.{one-leaf}
+use Rattle.art_steps.proofs.InsertLemmas.NodeLemmas.{one-leaf}
 use Rattle.art_tree.proofs.RemoveLemmas.WayContexts.{way-context}
-use Rattle.art_tree.proofs.PlaceLemmas.WayPlaces.{some-text}
+use Rattle.art_steps.proofs.PlaceLemmas.WayPlaces.{some-text}
 
 -- the leaf at a place is one of the tree's
 pub place-inside : {H : Type 0} {tree : Tree H} {steps : List (H × ℕ)} {pointer : H} (leaf : HasLeafAt tree steps pointer) → Contains (leaves tree) (pointer, leaf.text)

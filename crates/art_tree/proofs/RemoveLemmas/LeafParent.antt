@@ -1,15 +1,15 @@
 -- Removal: a leaf of a tree and its parent.
 use Rattle.art_tree.proofs.Names.{◌≡◌, ◌≢◌, ◌⊎◌, ◌∙◌, ℕ, ◌+◌, List, [], ◌∷◌, ◌++◌, length, Contains, Option, Some, refl, sym, ap, subst, inl, inr, arith, All-contains, Contains-append_left, Contains-append_right, Contains-append_cases, leaf_key, leaf_value, node_kind, opaque_key, OpaqueNodePtr, LeafNode, NodeArena, HeldInner, HeldLeaf, Nothing, held, AreDistinct, Spells, NodeStands, StandsIn, AllStandIn, Tree, Leaf, Inner, Branch, branch_roots, branch_leaves, places, branch_places, IsSound, IsAlone, plug, path_to, leaves_before, leaves_after, join, entry_at, HangsUnder, HasSmallestKinds, the_one, LeafKind, InnerNode}
-use Rattle.art_tree.proofs.InsertLemmas.AddedLeaf.{leaves-filled}
-use Rattle.art_tree.proofs.SharedLemmas.DictionaryLemmas.{held-entry}
+use Rattle.art_steps.proofs.InsertLemmas.AddedLeaf.{leaves-filled}
+use Rattle.art_steps.proofs.SharedLemmas.DictionaryLemmas.{held-entry}
 use Rattle.art_tree.proofs.RemoveLemmas.RemainingTree.{dropped-count}
-use Rattle.art_tree.proofs.SharedLemmas.ExchangedSubtree.{distinct-part, places-node, smallest_kinds-part, sound-part, stands-part}
-use Rattle.art_tree.proofs.SharedLemmas.DistinctLists.{AreDistinct-split}
-use Rattle.art_tree.proofs.InsertLemmas.GapLemmas.{keys_of, keys-append}
-use Rattle.art_tree.proofs.SharedLemmas.ParentLemmas.{inner-kind}
-use Rattle.art_tree.proofs.InsertLemmas.NodeLemmas.{some-inner}
+use Rattle.art_steps.proofs.SharedLemmas.ExchangedSubtree.{distinct-part, places-node, smallest_kinds-part, sound-part, stands-part}
+use Rattle.art_search.proofs.DistinctLists.{AreDistinct-split}
+use Rattle.art_steps.proofs.InsertLemmas.GapLemmas.{keys_of, keys-append}
+use Rattle.art_steps.proofs.SharedLemmas.ParentLemmas.{inner-kind}
+use Rattle.art_steps.proofs.InsertLemmas.NodeLemmas.{some-inner}
 use Rattle.art_tree.proofs.SharedLemmas.TreeLaws.{apart-there, distinct-places}
-use Rattle.art_tree.proofs.SharedLemmas.BranchLemmas.{stand-join, stand-split}
+use Rattle.art_steps.proofs.SharedLemmas.BranchLemmas.{stand-join, stand-split}
 
 module _ {K V : Type 0} {P : ℕ} {leaf parent : OpaqueNodePtr K V P} {byte : ℕ} {higher : Option (OpaqueNodePtr K V P × ℕ)} {tree : Tree (OpaqueNodePtr K V P)} where
   -- the part of the tree with the node as its root

@@ -1,13 +1,13 @@
 -- Removal: a leaf of a node of two children, whose other child takes the node's place.
 use Rattle.art_tree.proofs.Names.{◌≡◌, ◌≢◌, ◌⊎◌, ◌∙◌, ℕ, ◌+◌, ◌<◌, ◌≤◌, ◌^◌, List, [], ◌∷◌, ◌++◌, length, map, take, All, Contains, Option, Some, refl, sym, ap, subst, inl, inr, arith, map-append, All-append, All-contains, All-tail, Contains-append_right, same_Some, StandsFor, capped, first_pair, without_child, header_of, InnerNode, node_kind, opaque_key, OpaqueNodePtr, LeafNode, NodeArena, Held, HeldInner, HeldLeaf, Nothing, held, Changes, SameNodes, AreDistinct, NodeStands, StandsIn, AllStandIn, Tree, Leaf, Inner, Branches, Branch, root_of, branch_leaves, texts, places, branch_places, branch_roots, AreSound, path_to, join, HangsUnder, IsTaken, StaysAt, node_with_prefix, CanHang, IsHung, HasSmallestKinds, HaveSmallestKinds, above, IsRemoved, leaf_kind, one-inner, all_left, all_right, LeafKind, places-apart}
-use Rattle.art_tree.proofs.SharedLemmas.ChangedTree.{held-on, place-held, root-place}
+use Rattle.art_steps.proofs.SharedLemmas.ChangedTree.{held-on, place-held, root-place}
 use Rattle.art_tree.proofs.RemoveLemmas.RemovedLeaf.{AreRemovalSteps, HasDropped, can-hang, leaf-removed, inside-kept, last-inside, leaves-kept, top-last}
 use Rattle.art_tree.proofs.RemoveLemmas.RemainingTree.{HasOneLeft, dropped-roots, joined-short, joined-sound, leaves-joined, left-smallest_kinds, left-sound, one-leaves, one-left, one-places, places-joined, root-joined, smallest_kinds-joined, with_upper}
-use Rattle.art_tree.proofs.SharedLemmas.ExchangedSubtree.{kept-branches}
-use Rattle.art_tree.proofs.SharedLemmas.ExchangedTree.{texts-part}
+use Rattle.art_steps.proofs.SharedLemmas.ExchangedSubtree.{kept-branches}
+use Rattle.art_steps.proofs.SharedLemmas.ExchangedTree.{texts-part}
 use Rattle.art_tree.proofs.RemoveLemmas.LeafParent.{IsOther, LeafPlace, is-other, part_there, place-cases}
-use Rattle.art_tree.proofs.InsertLemmas.NodeLemmas.{some-inner}
-use Rattle.art_tree.proofs.InsertLemmas.SubtreeLemmas.{leaves-taken}
+use Rattle.art_steps.proofs.InsertLemmas.NodeLemmas.{some-inner}
+use Rattle.art_steps.proofs.InsertLemmas.SubtreeLemmas.{leaves-taken}
 
 -- a node stands for the prefix that it has
 stands-for : {H : Type 0} (room : ℕ) (node : InnerNode H) (prefix : List ℕ) (branches : Branches H) → NodeStands room node prefix branches → StandsFor room (header_of node) prefix

@@ -1,15 +1,15 @@
 -- The nodes that a tree needs for a leaf less.
 use Rattle.art_tree.proofs.Names.{◌≡◌, ◌≢◌, ◌∙◌, ℕ, ◌+◌, ◌≤◌, List, ◌∷◌, ◌++◌, length, map, Contains, Option, Some, sym, ap, subst, inl, inr, arith, kind_for, least_children, shrunk_kind, NodeType, node_kind, OpaqueNodePtr, NodeArena, room, Tree, Leaf, Inner, branch_roots, leaves, texts, plug, path_to, join, HasEntry, HangsUnder, one_if_same, LacksRoomToShrink, LacksRoomToRemove, Node4}
-use Rattle.art_tree.proofs.InsertLemmas.AddedLeaf.{leaves-filled, leaves-parted}
+use Rattle.art_steps.proofs.InsertLemmas.AddedLeaf.{leaves-filled, leaves-parted}
 use Rattle.art_tree.proofs.InsertLemmas.NeededNodes.{nodes-taken}
 use Rattle.art_tree.proofs.RemoveLemmas.LeafParent.{LeafPlace, left_there, part_there, right_there}
 use Rattle.art_tree.proofs.RemoveLemmas.RemainingTree.{dropped-sound, text-gone}
-use Rattle.art_tree.proofs.SharedLemmas.NodeKinds.{kind-shrinks}
-use Rattle.art_tree.proofs.SharedLemmas.BranchLemmas.{leaves-join}
-use Rattle.art_tree.proofs.SharedLemmas.DictionaryLemmas.{AreApart, entry-of-text, leaf-with, text-of-entry}
-use Rattle.art_tree.proofs.SharedLemmas.ExchangedSubtree.{sound-whole}
+use Rattle.art_steps.proofs.SharedLemmas.NodeKinds.{kind-shrinks}
+use Rattle.art_steps.proofs.SharedLemmas.BranchLemmas.{leaves-join}
+use Rattle.art_steps.proofs.SharedLemmas.DictionaryLemmas.{AreApart, entry-of-text, leaf-with, text-of-entry}
+use Rattle.art_steps.proofs.SharedLemmas.ExchangedSubtree.{sound-whole}
 use Rattle.art_tree.proofs.SharedLemmas.NodeCounts.{more-around, one-same, shrunk-no-leaf, shrunk-other}
-use Rattle.art_tree.proofs.SharedLemmas.TextLists.{text-or-new, text-stays}
+use Rattle.art_steps.proofs.SharedLemmas.TextLists.{text-or-new, text-stays}
 use Rattle.art_tree.proofs.SharedLemmas.TreeLaws.{apart-there}
 
 abbrev texts_of : {H : Type 0} → List (H × List ℕ) → List (List ℕ)

@@ -1,9 +1,9 @@
 -- Removal: a part of a tree without one of its leaves.
 use Rattle.art_tree.proofs.Names.{◌≡◌, ◌≢◌, ◌∙◌, ℕ, suc, ◌+◌, ◌<◌, ◌≤◌, ◌^◌, List, [], ◌∷◌, ◌++◌, length, length-append, map, Contains, Some, None, refl, sym, ap, subst, inl, inr, arith, append_assoc, append-nil, eq-eqb, ne_eqb, Contains-append_right, Contains-append_cases, ChildMap, IsAscending, IsAscendingFrom, key_bytes, child_at, without_child, OpaqueNodePtr, ascending_removed, child_at_removed, NodeArena, Tree, Leaf, Inner, Branches, NoBranch, Branch, branch_roots, root_of, leaves, branch_leaves, texts, branch_texts, places, branch_places, IsSound, AreSound, IsAlone, entry_at, HasSmallestKinds, HaveSmallestKinds, join, prefix-shorter, by_option, the_one}
-use Rattle.art_tree.proofs.SharedLemmas.BranchLemmas.{roots-join, leaves-join, places-join, sound-join, one_branch, sound-split, smallest_kinds-join, smallest_kinds-split}
-use Rattle.art_tree.proofs.SharedLemmas.DictionaryLemmas.{AreApart, leaf-of-entry, not-later}
-use Rattle.art_tree.proofs.SharedLemmas.ExchangedSubtree.{before-byte}
-use Rattle.art_tree.proofs.PlaceLemmas.WayPlaces.{branch-text}
+use Rattle.art_steps.proofs.SharedLemmas.BranchLemmas.{roots-join, leaves-join, places-join, sound-join, one_branch, sound-split, smallest_kinds-join, smallest_kinds-split}
+use Rattle.art_steps.proofs.SharedLemmas.DictionaryLemmas.{AreApart, leaf-of-entry, not-later}
+use Rattle.art_steps.proofs.SharedLemmas.ExchangedSubtree.{before-byte}
+use Rattle.art_steps.proofs.PlaceLemmas.WayPlaces.{branch-text}
 
 -- the tree with these bytes and this byte before its own prefix; a leaf is as it was
 abbrev pub with_upper : {H : Type 0} → List ℕ → ℕ → Tree H → Tree H

@@ -1,9 +1,9 @@
 -- Removal: a leaf that a search finds, and that is removed from its list and from its arena.
 use Rattle.art_tree.proofs.Names.{LeafPtr, ◌≡◌, ◌≢◌, ◌∙◌, ℕ, ◌≤◌, ◌+◌, length, List, [], ◌∷◌, ◌++◌, All, Option, Some, None, refl, sym, ap, subst, inl, inr, arith, Ok, Err, Result, All-cons, All-contains, All-head, All-tail, Contains-append_right, NodeType, least_children, same_or_differ, leaf_key, leaf_value, node_kind, opaque_key, opaque_pointer, OpaqueNodePtr, LeafNode, NodeArena, HeldLeaf, Nothing, held, held_leaf, room, Changes, SameRoom, SameOtherRoom, AreDistinct, HoldsLeaf, IsKnit, SameButLinks, Spells, SpellsAfter, leaf_at, Leaf, IsAlone, IsArt, entry_at, HasOneLess, FreesOne, IsAtPath, IsTaken, StaysAt, IsLeft, RemovesEntry, RemovesFreely, FreesOneEach, leaf_pointer, TreePath, leaf_kind, by_option, the_one, LeafKind, Node16, Node256, Node4, Node48, InnerNode, Root, ReachesLeaf}
-use Rattle.art_tree.proofs.SharedLemmas.DictionaryLemmas.{empty-entry, held-entry, leaf-of-entry}
-use Rattle.art_tree.proofs.InsertLemmas.NodeLemmas.{one-leaf}
-use Rattle.art_tree.proofs.SharedLemmas.RoomLemmas.{same-capacity, same-room}
-use Rattle.art_tree.proofs.SharedLemmas.HeldNodes.{cases_held, cases_pointer, leaf-of}
+use Rattle.art_steps.proofs.SharedLemmas.DictionaryLemmas.{empty-entry, held-entry, leaf-of-entry}
+use Rattle.art_steps.proofs.InsertLemmas.NodeLemmas.{one-leaf}
+use Rattle.art_steps.proofs.SharedLemmas.RoomLemmas.{same-capacity, same-room}
+use Rattle.art_links.proofs.HeldNodes.{cases_held, cases_pointer, leaf-of}
 use Rattle.art_tree.proofs.SharedLemmas.TreeLaws.{apart-there}
 use Rattle.art_tree.proofs.RemoveLemmas.WayContexts.{leaf-root}
 

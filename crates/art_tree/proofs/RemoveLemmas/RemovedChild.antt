@@ -1,14 +1,14 @@
 -- Removal: a leaf of a node of more than two children.
 use Rattle.art_tree.proofs.Names.{◌≡◌, ◌≢◌, ◌↔◌, ◌⊎◌, ◌∙◌, Bool, IsTrue, ℕ, ◌+◌, ◌<◌, ◌≤◌, List, [], ◌∷◌, ◌++◌, length, Contains, Option, Some, None, refl, sym, ap, subst, inl, inr, arith, Contains-append_right, kind_for, least_children, shrunk_kind, NodeType, child_at, without_child, node_kind, opaque_key, OpaqueNodePtr, LeafNode, NodeArena, HeldInner, HeldLeaf, Nothing, held, room, AllStandIn, Tree, Leaf, Inner, Branch, branch_roots, branch_leaves, branch_places, path_to, KeepsAt, join, HasOneLess, HasRoomToShrink, TellsFewest, HangsUnder, IsTaken, CanHang, IsHung, above, IsRemoved, NeedsSmallerNode, leaf_kind, one-inner, LeafKind, Node16, Node256, Node4, Node48, InnerNode, node_without_child}
-use Rattle.art_tree.proofs.SharedLemmas.BranchLemmas.{leaves-join, places-join, roots-join}
-use Rattle.art_tree.proofs.SharedLemmas.ChangedTree.{held-on, place-held}
+use Rattle.art_steps.proofs.SharedLemmas.BranchLemmas.{leaves-join, places-join, roots-join}
+use Rattle.art_steps.proofs.SharedLemmas.ChangedTree.{held-on, place-held}
 use Rattle.art_tree.proofs.RemoveLemmas.RemovedLeaf.{AreRemovalSteps, HasDropped, can-hang, leaf-removed, inside-kept, last-inside, top-last}
 use Rattle.art_tree.proofs.RemoveLemmas.RemainingTree.{dropped-child, dropped-roots, dropped-sound, left-smallest_kinds}
-use Rattle.art_tree.proofs.SharedLemmas.ExchangedSubtree.{kept-branches}
+use Rattle.art_steps.proofs.SharedLemmas.ExchangedSubtree.{kept-branches}
 use Rattle.art_tree.proofs.RemoveLemmas.LeafParent.{LeafPlace, is-other, part_there, place-cases}
-use Rattle.art_tree.proofs.InsertLemmas.NodeLemmas.{some-inner}
-use Rattle.art_tree.proofs.InsertLemmas.SubtreeLemmas.{leaves-taken}
-use Rattle.art_tree.proofs.SharedLemmas.NodeKinds.{kind-lasts, kind-shrinks, least-fits}
+use Rattle.art_steps.proofs.InsertLemmas.NodeLemmas.{some-inner}
+use Rattle.art_steps.proofs.InsertLemmas.SubtreeLemmas.{leaves-taken}
+use Rattle.art_steps.proofs.SharedLemmas.NodeKinds.{kind-lasts, kind-shrinks, least-fits}
 
 shrunk-inner : (kind : NodeType) → kind ≢ LeafKind → shrunk_kind kind ≢ LeafKind
 shrunk-inner Node4 inner = λ e. cc

@@ -1,14 +1,14 @@
 -- Removal: a tree with one leaf less, after the steps of a removal.
 use Rattle.art_tree.proofs.Names.{◌≡◌, ◌≢◌, ◌⊎◌, ◌∙◌, ℕ, ◌<◌, ◌^◌, List, ◌∷◌, ◌++◌, length, map, All, Contains, Some, refl, sym, ap, subst, inl, inr, arith, append_assoc, Option, map-append, All-append, All-tail, Contains-append_right, opaque_pointer, leaf_key, OpaqueNodePtr, LeafNode, NodeArena, HeldLeaf, Nothing, held, held_leaf, SameNodes, AreDistinct, Spells, leaf_at, StandsIn, Tree, leaves, places, root_of, texts, IsSound, IsWellFormed, IsAlone, Context, plug, path_to, leaves_before, leaves_after, parent, Adopts, KeepsAt, IsExchanged, entry_at, StaysAt, CanHang, IsHung, HasSmallestKinds, above, IsRemoved, all_left, all_right, LeafKind}
-use Rattle.art_tree.proofs.SharedLemmas.ChangedTree.{HangsAt, IsAbove, can-hang-at, hangs-at, held-on, keeps-on, leaf-no-parent, parent-above, place-held, root-place, was-leaf}
-use Rattle.art_tree.proofs.SharedLemmas.DictionaryLemmas.{AreApart, leaf-held-in}
+use Rattle.art_steps.proofs.SharedLemmas.ChangedTree.{HangsAt, IsAbove, can-hang-at, hangs-at, held-on, keeps-on, leaf-no-parent, parent-above, place-held, root-place, was-leaf}
+use Rattle.art_steps.proofs.SharedLemmas.DictionaryLemmas.{AreApart, leaf-held-in}
 use Rattle.art_tree.proofs.RemoveLemmas.RemainingTree.{gone-entry}
-use Rattle.art_tree.proofs.SharedLemmas.ExchangedSubtree.{in-part, leaves-plug}
-use Rattle.art_tree.proofs.InsertLemmas.GapLemmas.{keys_of, keys-append}
-use Rattle.art_tree.proofs.SharedLemmas.ExchangedTree.{alone-grown, entries-but, entries-stay, leaf-stays, leaf-was, texts-part}
-use Rattle.art_tree.proofs.InsertLemmas.NodeLemmas.{one-leaf, some-inner}
-use Rattle.art_tree.proofs.SharedLemmas.HeldNodes.{cases_pointer, leaf-of}
-use Rattle.art_tree.proofs.SharedLemmas.SpelledLists.{spells-on}
+use Rattle.art_steps.proofs.SharedLemmas.ExchangedSubtree.{in-part, leaves-plug}
+use Rattle.art_steps.proofs.InsertLemmas.GapLemmas.{keys_of, keys-append}
+use Rattle.art_steps.proofs.SharedLemmas.ExchangedTree.{alone-grown, entries-but, entries-stay, leaf-stays, leaf-was, texts-part}
+use Rattle.art_steps.proofs.InsertLemmas.NodeLemmas.{one-leaf, some-inner}
+use Rattle.art_links.proofs.HeldNodes.{cases_pointer, leaf-of}
+use Rattle.art_steps.proofs.SharedLemmas.SpelledLists.{spells-on}
 use Rattle.art_tree.proofs.SharedLemmas.TreeLaws.{apart-there}
 
 -- the steps of a removal: from the first arena to the next a leaf is removed, from there to the

@@ -1,8 +1,8 @@
 -- What is removed of an arena is removed of the tree in it, of the entry at its end, or by its leaf.
 use Rattle.art_tree.proofs.Names.{LeafPtr, ◌≡◌, ◌∙◌, ◌+◌, ℕ, List, Option, Some, None, Result, Ok, Err, IsSome, refl, sym, ap, subst, inl, arith, inr, leaf_key, leaf_value, OpaqueNodePtr, LeafNode, NodeArena, held_leaf, HeldLeaf, SameCapacity, leaf_at, End, IsArt, Art, entry_at, IsEmpty, HasKeys, same_Some, IsEndEntry, PopsEntry, GrowsOnlyWhere, LacksRoomToRemove, TreePath, opaque_pointer, LeafKind, IsErr, IsFound, TakesEntry, RemovesEntry}
-use Rattle.art_tree.specs.Room.{HasEntryRoom}
-use Rattle.art_tree.proofs.SharedLemmas.DictionaryLemmas.{entry-of-leaf}
-use Rattle.art_tree.proofs.SharedLemmas.ExchangedTree.{art-same, entries-stay}
+use Rattle.art_steps.specs.Room.{HasEntryRoom}
+use Rattle.art_steps.proofs.SharedLemmas.DictionaryLemmas.{entry-of-leaf}
+use Rattle.art_steps.proofs.SharedLemmas.ExchangedTree.{art-same, entries-stay}
 use Rattle.art_tree.proofs.SharedLemmas.KeyLemmas.{keys-left, keys-same}
 use Rattle.art_tree.proofs.SharedLemmas.RoomLasts.{enough-to-remove, lasts-after-removal, no-growth}
 use Rattle.art_tree.proofs.SharedLemmas.TreeLaws.{apart-there}

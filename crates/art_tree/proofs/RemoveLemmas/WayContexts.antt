@@ -1,7 +1,7 @@
 -- Removal: the way to a leaf as the place of that leaf in the tree.
 use Rattle.art_tree.proofs.Names.{◌≡◌, ◌∙◌, ℕ, List, [], ◌∷◌, ◌++◌, Option, Some, None, refl, sym, ap, inl, inr, append_assoc, append-nil, same_Some, OpaqueNodePtr, Tree, Leaf, Inner, Branches, NoBranch, Branch, Context, Whole, Under, plug, join, HangsUnder, HasLeafAt, IsAtPath, steps_to, path_of, above, IsWay, IsWayUnder, TreePath, Root, ChildOfRoot, Normal}
-use Rattle.art_tree.proofs.SharedLemmas.BranchLemmas.{one_branch, join_assoc}
-use Rattle.art_tree.proofs.FindLemmas.PathSteps.{path_of-visit, visited}
+use Rattle.art_steps.proofs.SharedLemmas.BranchLemmas.{one_branch, join_assoc}
+use Rattle.art_search.proofs.PathSteps.{path_of-visit, visited}
 
 -- the place is the child under this byte of an inner node, which has this parent
 pub record IsUnder {H : Type 0} (context : Context H) (parent : H) (byte : ℕ) (higher : Option (H × ℕ)) : Type 0 where

@@ -1,6 +1,6 @@
 -- Keys of which none is a prefix of another.
 use Rattle.art_tree.proofs.Names.{◌≡◌, ◌∙◌, ◌⊎◌, ℕ, List, map, All, Some, sym, subst, inl, inr, All-contains, IsPrefixOf, NodeArena, Clashes, HasKeys, IsProperPrefixOf, entry_at, ClashesIn, by_option, inside_image}
-use Rattle.art_tree.proofs.SharedLemmas.DictionaryLemmas.{text-found}
+use Rattle.art_steps.proofs.SharedLemmas.DictionaryLemmas.{text-found}
 
 module _ {K : Type 0} (text : K → List ℕ) (is_key : K → Type 0) (no_prefixes : (a b : K) → is_key a → is_key b → IsPrefixOf (text a) (text b) → text a ≡ text b) (key : K) (is : is_key key) where
   -- a key with this text is none that it clashes with

@@ -1,8 +1,8 @@
 -- A value that is written into a leaf that was found or added.
 use Rattle.art_tree.proofs.Names.{◌≡◌, ◌∙◌, ℕ, List, Some, inl, inr, sym, ap, subst, ◌≢◌, UnwrapsOrElse, option_map, option_map_or, leaf_key, leaf_value, LeafNode, OpaqueNodePtr, NodeArena, HeldLeaf, held, Nothing, entry_at, SameOtherEntries, HoldsEntry, FindsEntry, IsEntered}
-use Rattle.art_tree.specs.Leaves.{KeepsOtherLeaves}
-use Rattle.art_tree.proofs.SharedLemmas.DictionaryLemmas.{text-found}
-use Rattle.art_tree.proofs.InsertLemmas.NodeLemmas.{one-leaf, some-leaf}
+use Rattle.art_steps.specs.Leaves.{KeepsOtherLeaves}
+use Rattle.art_steps.proofs.SharedLemmas.DictionaryLemmas.{text-found}
+use Rattle.art_steps.proofs.InsertLemmas.NodeLemmas.{one-leaf, some-leaf}
 
 module _ {K V : Type 0} {P : ℕ} (text : K → List ℕ) (old mid : NodeArena K V P) (key : K) (made : V → Type 0) (pointer : OpaqueNodePtr K V P) (finds : FindsEntry text old mid key made pointer) where
   -- the leaf is held

@@ -1,7 +1,7 @@
 -- The entries of an arena are as many as its leaves.
 use Rattle.art_tree.proofs.Names.{◌≡◌, ◌≢◌, ◌∙◌, ℕ, zero, suc, ◌+◌, ◌≤◌, List, [], ◌∷◌, length, All, Contains, Option, Some, None, cond, slice_index_or, refl, sym, ap, subst, arith, count_by, is_some, length-map, sum_by-cons, All-nil, All-cons, All-head, All-tail, All-weaker, All-contains, leaf_key, leaf_value, opaque_key, opaque_pointer, OpaqueNodePtr, LeafNode, NodeArena, HeldLeaf, Nothing, held, held_leaf, leaf_count, AreDistinct, Spells, SpellsAfter, Tree, leaves, texts, IsAlone, IsArt, entry_among, entries_among, entries_of, texts_of, inside_image, same_texts, texts-apart, texts-ascend, LeafKind}
-use Rattle.art_tree.proofs.InsertLemmas.NodeLemmas.{some-leaf}
-use Rattle.art_tree.proofs.SharedLemmas.DictionaryLemmas.{entry-from, entry-of-text, leaf-in, one-member, text-of-entry}
+use Rattle.art_steps.proofs.InsertLemmas.NodeLemmas.{some-leaf}
+use Rattle.art_steps.proofs.SharedLemmas.DictionaryLemmas.{entry-from, entry-of-text, leaf-in, one-member, text-of-entry}
 use Rattle.art_tree.proofs.SharedLemmas.EntryLists.{among-each, are-entries, has-entry, put-long}
 
 module _ {X : Type 0} where

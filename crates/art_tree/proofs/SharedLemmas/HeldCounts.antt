@@ -1,6 +1,6 @@
 -- An arena that holds one tree holds as many nodes of each kind as the tree has.
 use Rattle.art_tree.proofs.Names.{◌≡◌, ◌≢◌, ◌∙◌, ℕ, zero, suc, ◌+◌, ◌-◌, ◌≤◌, cond, List, [], ◌∷◌, ◌++◌, length, get_or, All, Contains, Option, Some, None, slice_index_or, nat_eq, refl, sym, ap, subst, inl, inr, arith, count_by, is_some, sum_by-cons, All-contains, Contains-get_or, Contains-append_right, Contains-append_cases, NodeType, node_kind, opaque_key, opaque_pointer, OpaqueNodePtr, same_or_differ, NodeArena, Nothing, held, held_inner, held_leaf, room, capacity, AreDistinct, StandsIn, AllStandIn, Tree, Leaf, Inner, Branches, NoBranch, Branch, places, branch_places, leaf_kind, IsAlone, HasSmallestKinds, HaveSmallestKinds, one_if_same, nodes_of, branch_nodes_of, the_one, Node, LeafKind, Node16, Node256, Node4, Node48}
-use Rattle.art_tree.proofs.SharedLemmas.ChangedTree.{place-held}
+use Rattle.art_steps.proofs.SharedLemmas.ChangedTree.{place-held}
 use Rattle.art_tree.proofs.SharedLemmas.EntryCounts.{HasEach, distinct-fit}
 use Rattle.art_tree.proofs.SharedLemmas.NodeBounds.{one-differ}
 use Rattle.art_tree.proofs.SharedLemmas.NodeCounts.{one-same}

@@ -1,7 +1,7 @@
 -- Where all nodes are unchanged, all entries are.
 use Rattle.art_tree.proofs.Names.{ℕ, List, Option, None, Some, OpaqueNodePtr, NodeArena, SameNodes, IsArt, SameEntries}
 use Rattle.art_tree.proofs.InsertLemmas.EntryLemmas.{empty-stays}
-use Rattle.art_tree.proofs.SharedLemmas.ExchangedTree.{entries-stay}
+use Rattle.art_steps.proofs.SharedLemmas.ExchangedTree.{entries-stay}
 use Rattle.art_tree.proofs.SharedLemmas.TreeLaws.{apart-there}
 
 module _ {K V : Type 0} {P : ℕ} (text : K → List ℕ) (old new : NodeArena K V P) (same : SameNodes old new) where

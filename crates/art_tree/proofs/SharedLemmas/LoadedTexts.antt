@@ -1,6 +1,6 @@
 -- The texts of a loaded tree are those of its entries.
 use Rattle.art_tree.proofs.Names.{◌≡◌, ◌∙◌, ℕ, List, [], ◌∷◌, map, Contains, refl, sym, ap, arith, Contains-append_right, leaf_key, OpaqueNodePtr, LeafNode, NodeArena, HeldLeaf, held, Tree, leaves, texts, HoldEntries, IsLoaded, texts_of}
-use Rattle.art_tree.proofs.SharedLemmas.DictionaryLemmas.{leaf-held-in}
+use Rattle.art_steps.proofs.SharedLemmas.DictionaryLemmas.{leaf-held-in}
 
 module _ {K V : Type 0} {P : ℕ} (text : K → List ℕ) (arena : NodeArena K V P) where
   -- leaves that hold entries have their texts

@@ -1,7 +1,7 @@
 -- How many nodes of a kind a tree of so many leaves has at most.
 use Rattle.art_tree.proofs.Names.{◌≡◌, ◌≢◌, ◌∙◌, ℕ, ◌+◌, ◌*◌, ◌/◌, ◌≤◌, List, ◌∷◌, [], ◌++◌, length, length-append, refl, sym, ap, inl, inr, arith, cases_lt, length-map, kind_for, NodeType, same_or_differ, Tree, Leaf, Inner, Branches, NoBranch, Branch, branch_roots, leaves, branch_leaves, texts, IsSound, AreSound, IsWellFormed, one_if_same, nodes_of, branch_nodes_of, LeafKind, Node16, Node256, Node4, Node48}
 use Rattle.art_tree.proofs.SharedLemmas.NodeCounts.{no-leaf-kind, one-same}
-use Rattle.art_tree.proofs.SharedLemmas.NodeKinds.{by_kind, kind-4}
+use Rattle.art_steps.proofs.SharedLemmas.NodeKinds.{by_kind, kind-4}
 
 pub one-differ : (a b : NodeType) → a ≢ b → one_if_same a b ≡ 0
 one-differ Node4 Node4 differ = absurd (differ refl)

@@ -1,7 +1,7 @@
 -- How many nodes of a kind trees have.
 use Rattle.art_tree.proofs.Names.{◌≡◌, ◌≢◌, ℕ, ◌+◌, ◌<◌, length, refl, ap, arith, kind_for, grown_kind, shrunk_kind, NodeType, Tree, Leaf, Inner, Branches, NoBranch, Branch, branch_roots, SameButPointers, SameBranches, Context, Whole, Under, plug, join, one_if_same, nodes_of, branch_nodes_of, LeafKind, Node16, Node256, Node4, Node48}
-use Rattle.art_tree.proofs.SharedLemmas.ExchangedSubtree.{count-same}
-use Rattle.art_tree.proofs.SharedLemmas.NodeKinds.{by_kind}
+use Rattle.art_steps.proofs.SharedLemmas.ExchangedSubtree.{count-same}
+use Rattle.art_steps.proofs.SharedLemmas.NodeKinds.{by_kind}
 
 pub one-same : (kind : NodeType) → one_if_same kind kind ≡ 1
 one-same Node4 = refl

@@ -1,16 +1,16 @@
 -- A tree and the tree of its texts but one: they have as many nodes of each kind, but for one.
 use Rattle.art_tree.proofs.Names.{◌≡◌, ◌≢◌, ◌⊎◌, ◌∙◌, ℕ, ◌+◌, ◌≤◌, List, [], ◌∷◌, ◌++◌, length, map, Contains, refl, sym, ap, subst, inl, inr, arith, ◌↔◌, cases_lt, map-append, Contains-append_cases, kind_for, NodeType, Tree, Leaf, Inner, Branches, NoBranch, Branch, branch_roots, leaves, branch_leaves, texts, branch_texts, IsSound, IsWellFormed, Context, Whole, Under, plug, path_to, leaves_before, leaves_after, join, one_if_same, nodes_of, branch_nodes_of, the_one, LeafKind}
-use Rattle.art_tree.proofs.InsertLemmas.AddedLeaf.{leaves-filled, leaves-parted}
+use Rattle.art_steps.proofs.InsertLemmas.AddedLeaf.{leaves-filled, leaves-parted}
 use Rattle.art_tree.proofs.InsertLemmas.NeededNodes.{nodes-taken}
-use Rattle.art_tree.proofs.InsertLemmas.SubtreeLemmas.{with_leaf}
-use Rattle.art_tree.proofs.PlaceLemmas.WayPlaces.{some-text}
+use Rattle.art_steps.proofs.InsertLemmas.SubtreeLemmas.{with_leaf}
+use Rattle.art_steps.proofs.PlaceLemmas.WayPlaces.{some-text}
 use Rattle.art_tree.proofs.RemoveLemmas.RemainingTree.{with_upper, dropped-count, dropped-sound, joined-sound, leaves-joined, one-leaves, one-left, text-gone}
-use Rattle.art_tree.proofs.SharedLemmas.BranchLemmas.{leaves-join, one_branch, join_assoc}
-use Rattle.art_tree.proofs.SharedLemmas.DictionaryLemmas.{AreApart, leaf-with}
-use Rattle.art_tree.proofs.SharedLemmas.ExchangedSubtree.{count-same, sound-part, sound-whole}
+use Rattle.art_steps.proofs.SharedLemmas.BranchLemmas.{leaves-join, one_branch, join_assoc}
+use Rattle.art_steps.proofs.SharedLemmas.DictionaryLemmas.{AreApart, leaf-with}
+use Rattle.art_steps.proofs.SharedLemmas.ExchangedSubtree.{count-same, sound-part, sound-whole}
 use Rattle.art_tree.proofs.SharedLemmas.NodeBounds.{one-at-most, one-or-leaf}
 use Rattle.art_tree.proofs.SharedLemmas.NodeCounts.{nodes-join}
-use Rattle.art_tree.proofs.SharedLemmas.TextLists.{text-or-new, text-stays}
+use Rattle.art_steps.proofs.SharedLemmas.TextLists.{text-or-new, text-stays}
 
 abbrev texts_of : {H : Type 0} → List (H × List ℕ) → List (List ℕ)
 texts_of all = map (λ leaf. leaf.1) all

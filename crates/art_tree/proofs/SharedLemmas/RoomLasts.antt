@@ -1,14 +1,14 @@
 -- Room for so many changes of a tree: it suffices for each of them, and one fewer is left.
 use Rattle.art_tree.proofs.Names.{◌≡◌, ◌≢◌, ◌⊎◌, ◌∙◌, ℕ, ◌+◌, ◌<◌, ◌≤◌, List, [], length, min, Contains, Option, Some, None, refl, sym, ap, subst, inl, inr, arith, ◌↔◌, cases_lt, NodeType, OpaqueNodePtr, NodeArena, capacity, leaf_count, room, SameCapacity, SameNodes, Tree, texts, IsWellFormed, IsAlone, IsArt, entry_at, HasEntry, SameOtherEntries, most_nodes, nodes_of, GrowsOnlyWhere, HasFewer, HasRoomOf, LacksRoomFor, LacksRoomToInsert, LacksRoomToRemove, text_is, LeafKind, Node16, Node256, Node4, Node48, texts-apart}
-use Rattle.art_tree.specs.Room.{HasEntryRoom}
-use Rattle.art_tree.proofs.SharedLemmas.DictionaryLemmas.{empty-entry, entry-of-text, text-of-entry}
-use Rattle.art_tree.proofs.SharedLemmas.ExchangedTree.{alone-same}
+use Rattle.art_steps.specs.Room.{HasEntryRoom}
+use Rattle.art_steps.proofs.SharedLemmas.DictionaryLemmas.{empty-entry, entry-of-text, text-of-entry}
+use Rattle.art_steps.proofs.SharedLemmas.ExchangedTree.{alone-same}
 use Rattle.art_tree.proofs.SharedLemmas.HeldCounts.{held_count, held-nodes, held-none, room-left}
 use Rattle.art_tree.proofs.SharedLemmas.NodeBounds.{most-4, most-16, most-48, most-256, most-leaves, text-nodes}
 use Rattle.art_tree.proofs.SharedLemmas.OneLeafLess.{by-one, one-text}
 use Rattle.art_tree.proofs.SharedLemmas.TreeLaws.{apart-there, distinct-places}
 use Rattle.art_tree.proofs.SharedLemmas.UniqueTree.{same-nodes}
-use Rattle.art_tree.proofs.PlaceLemmas.WayPlaces.{some-text}
+use Rattle.art_steps.proofs.PlaceLemmas.WayPlaces.{some-text}
 
 -- a tree of so many texts has no more nodes of a kind
 pub most-nodes : {H : Type 0} (kind : NodeType) (tree : Tree H) (most : ℕ) → IsWellFormed tree → length (texts tree) ≤ most → nodes_of kind tree ≤ most_nodes kind most

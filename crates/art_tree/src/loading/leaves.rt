@@ -2,12 +2,13 @@
 ghost use Rattle.std.specs.Prelude.{◌≡◌, ◌+◌, ◌≤◌, [], vec_len, vec_capacity};
 ghost use Rattle.art_header.specs.declared.node_type.NodeType.TheVariants.{Leaf};
 ghost use Rattle.art_arena.specs.Arena.{room, SameOtherRoom};
-ghost use Rattle.art_tree.specs.Plan.{AreLoadable};
-ghost use Rattle.art_tree.specs.Refusals.{texts_of};
-ghost use Rattle.art_tree.specs.Loading.{AreLinked};
+ghost use Rattle.art_steps.specs.Plan.{AreLoadable};
+ghost use Rattle.art_steps.specs.Refusals.{texts_of};
+ghost use Rattle.art_steps.specs.Loading.{AreLinked};
 
-use art_arena::{LeafLinks, LeafPtr, NodeArena};
+use art_arena::{LeafPtr, NodeArena};
 use art_bytes::AsBytes;
+use art_links::LeafLinks;
 use art_nodes::LeafNode;
 
 /// Moves the entries into leaves, each linked after the one before. There must be spare capacity

@@ -3,10 +3,10 @@ ghost use Rattle.std.specs.Prelude.{◌≡◌, ◌≤◌, [], All, Some, length,
 ghost use Rattle.art_nodes.specs.Pointers.{slab_key};
 ghost use Rattle.art_arena.specs.Arena.{held, Nothing};
 ghost use Rattle.art_arena.specs.Links.{AreDistinct, HoldsLeaf};
-ghost use Rattle.art_tree.specs.Art.{IsArt};
-ghost use Rattle.art_tree.specs.Loading.{HoldEntries};
+ghost use Rattle.art_steps.specs.Art.{IsArt};
+ghost use Rattle.art_steps.specs.Loading.{HoldEntries};
 ghost use Rattle.art_tree.specs.Reloading.{AreLeavesOf, IsReloaded};
-ghost use Rattle.art_tree.specs.Search.{leaf_pointer};
+ghost use Rattle.art_search.specs.Search.{leaf_pointer};
 
 use crate::loading::{make, prepare};
 use art_arena::{End, LeafPtr, NodeArena, end_leaf};

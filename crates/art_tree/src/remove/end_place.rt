@@ -8,12 +8,12 @@ ghost use Rattle.art_arena.specs.Ends.{IsAtEnd, end_pair};
 ghost use Rattle.art_arena.specs.Standing.{TreeAt};
 ghost use Rattle.art_arena.specs.Trees.{leaves};
 ghost use Rattle.art_tree.specs.Dropping.{IsAtPath};
-ghost use Rattle.art_tree.specs.Search.{EachTree, HasTree, leaf_pointer};
+ghost use Rattle.art_search.specs.Search.{EachTree, HasTree, leaf_pointer};
 
-use crate::path::{TreePath, TreePathSearch};
 use art_arena::{End, LeafPtr, NodeArena};
 use art_bytes::AsBytes;
 use art_nodes::{InnerNodeRead, OpaqueNodePtr};
+use art_search::{TreePath, TreePathSearch};
 
 // The child at one end of a node, with its byte.
 fn pair_at_end<K, V, const PREFIX_LEN: usize, N: InnerNodeRead<K, V, PREFIX_LEN>>(

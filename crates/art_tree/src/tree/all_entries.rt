@@ -1,13 +1,14 @@
 //! All entries of an [`ArtTree`] at once: loaded, removed, or moved to memory in their order.
 ghost use Rattle.std.specs.Prelude.{◌≡◌, ℕ, List, All, Contains, None, IfOk, IfErr, OnOk, OnErr};
 ghost use Rattle.art_arena.specs.Arena.{capacity, room, SameCapacity};
-ghost use Rattle.art_tree.specs.Dictionary.{HasEntry, IsEmpty, IsEntry, SameEntries};
-ghost use Rattle.art_tree.specs.Refusals.{texts_of, HaveNoFault, IsDue};
+ghost use Rattle.art_steps.specs.Dictionary.{HasEntry, IsEmpty, IsEntry, SameEntries};
+ghost use Rattle.art_steps.specs.Refusals.{texts_of, HaveNoFault, IsDue};
 
-use crate::loading::{LoadFault, load, reload};
+use crate::loading::{load, reload};
 use crate::tree::{ArtTree, Rooted};
 use art_arena::NodeArena;
 use art_bytes::AsBytes;
+use art_steps::LoadFault;
 use std::alloc::{AllocError, Global};
 
 impl<K: AsBytes + Drop, V: Drop, const PREFIX_LEN: usize> ArtTree<K, V, PREFIX_LEN> {

@@ -6,26 +6,26 @@ ghost use Rattle.art_nodes.specs.Leaf.{leaf_key};
 ghost use Rattle.art_nodes.specs.Pointers.{slab_key};
 ghost use Rattle.art_arena.specs.Arena.{SameNodes, SameRoom};
 ghost use Rattle.art_arena.specs.Links.{HoldsLeaf, leaf_at};
-ghost use Rattle.art_tree.specs.Dictionary.{entry_at, HasKeys, IsEntry, SameEntries, SameOtherEntries};
+ghost use Rattle.art_steps.specs.Dictionary.{entry_at, HasKeys, IsEntry, SameEntries, SameOtherEntries};
 ghost use Rattle.art_tree.specs.Entering.{FindsOrInserts, InsertsAt, IsPlaceOf, IsPresent, ReplacesEntry};
 ghost use Rattle.art_tree.specs.Finding.{IsLeafOf};
-ghost use Rattle.art_tree.specs.Insertion.{IsRefused, MayEnter};
+ghost use Rattle.art_steps.specs.Insertion.{IsRefused, MayEnter};
 ghost use Rattle.art_tree.specs.LeafRemoval.{TakesEntry};
-ghost use Rattle.art_tree.specs.Leaves.{KeepsOtherLeaves};
-ghost use Rattle.art_tree.specs.Places.{present_leaf};
-ghost use Rattle.art_tree.specs.Removal.{NeedsSmallerNode};
-ghost use Rattle.art_tree.specs.Room.{FreesOneEach, GrowsOnlyWhere, HasEntryRoom, LacksRoomToInsert, LacksRoomToRemove};
+ghost use Rattle.art_steps.specs.Leaves.{KeepsOtherLeaves};
+ghost use Rattle.art_steps.specs.Places.{present_leaf};
+ghost use Rattle.art_steps.specs.Removal.{NeedsSmallerNode};
+ghost use Rattle.art_steps.specs.Room.{FreesOneEach, GrowsOnlyWhere, HasEntryRoom, LacksRoomToInsert, LacksRoomToRemove};
 ghost use Rattle.art_tree.specs.TreeLending.{LendsEntryValue};
-ghost use Rattle.art_tree.specs.declared.insert.InsertRefusal.TheVariants.{OutOfMemory};
+ghost use Rattle.art_steps.specs.declared.faults.InsertRefusal.TheVariants.{OutOfMemory};
 
-use crate::insert::{InsertFault, RootAndPlace, insert_new, present};
-use crate::path::TreePath;
-use crate::place::find_place;
+use crate::insert::{RootAndPlace, insert_new, present};
 use crate::remove::remove_leaf;
 use crate::tree::ArtTree;
 use art_arena::LeafPtr;
 use art_bytes::AsBytes;
 use art_nodes::LeafNode;
+use art_search::TreePath;
+use art_steps::{InsertFault, find_place};
 use std::alloc::AllocError;
 
 impl<K: AsBytes, V, const PREFIX_LEN: usize> ArtTree<K, V, PREFIX_LEN> {

@@ -3,8 +3,8 @@ ghost use Rattle.std.specs.Prelude.{◌≢◌, ℕ, List, IfSome, IfNone};
 ghost use Rattle.std.specs.declared.cmp.Ordering.TheVariants.{Less, Greater};
 ghost use Rattle.art_bytes.specs.Text.{text_order};
 ghost use Rattle.art_arena.specs.declared.ends.End.TheVariants.{First, Last};
-ghost use Rattle.art_tree.specs.Dictionary.{IsEntry, HasEntry, IsEmpty};
-ghost use Rattle.art_tree.specs.Ends.{IsWithin, PopsEntry};
+ghost use Rattle.art_steps.specs.Dictionary.{IsEntry, HasEntry, IsEmpty};
+ghost use Rattle.art_steps.specs.Ends.{IsWithin, PopsEntry};
 ghost use Rattle.art_tree.specs.Finding.{IsEndFound};
 
 use crate::remove::end_place::end_place;

@@ -7,15 +7,15 @@ ghost use Rattle.art_nodes.specs.Leaf.{leaf_key, leaf_value, with_value};
 ghost use Rattle.art_nodes.specs.Pointers.{slab_key, opaque_pointer};
 ghost use Rattle.art_arena.specs.Arena.{Changes, HeldLeaf};
 ghost use Rattle.art_arena.specs.Links.{HoldsLeaf, leaf_at, with_value_at};
-ghost use Rattle.art_tree.specs.Dictionary.{entry_at, HasEntry, IsEmpty};
+ghost use Rattle.art_steps.specs.Dictionary.{entry_at, HasEntry, IsEmpty};
 ghost use Rattle.art_tree.specs.Entries.{entries_of};
 ghost use Rattle.art_tree.specs.Finding.{IsFound};
 ghost use Rattle.art_tree.specs.TreeLending.{LendsLeafValue, LendsValueAt};
 
-use crate::find::find_leaf;
 use crate::tree::{ArtTree, FoundLeaf};
 use art_arena::{ArenaReader, LeafPtr};
 use art_bytes::AsBytes;
+use art_search::find_leaf;
 
 impl<K: AsBytes, V, const PREFIX_LEN: usize> ArtTree<K, V, PREFIX_LEN> {
     // The leaf with these key bytes and the path to it, if there is one. Inlined, as `find_leaf` is.

@@ -1,9 +1,9 @@
 //! Spare capacity of an [`ArtTree`] for entries and nodes that come.
 ghost use Rattle.std.specs.Prelude.{◌≡◌, ◌≢◌, ◌≤◌, OnOk, IsOk};
 ghost use Rattle.art_arena.specs.Arena.{room, SameNodes, SameOtherCapacity, SameOtherRoom, SameRoom};
-ghost use Rattle.art_tree.specs.Dictionary.{SameEntries};
-ghost use Rattle.art_tree.specs.NodeCounts.{most_nodes};
-ghost use Rattle.art_tree.specs.Room.{HasEntryRoom, HasRoomOf};
+ghost use Rattle.art_steps.specs.Dictionary.{SameEntries};
+ghost use Rattle.art_steps.specs.NodeCounts.{most_nodes};
+ghost use Rattle.art_steps.specs.Room.{HasEntryRoom, HasRoomOf};
 
 use crate::tree::ArtTree;
 use art_bytes::AsBytes;

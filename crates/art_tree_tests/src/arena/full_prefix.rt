@@ -1,7 +1,7 @@
 //! Nodes that are built by hand, and their whole prefixes.
 ghost use Rattle.std.specs.Prelude.{◌≡◌, ◌≤◌, ◌<◌, ◌++◌, ◌∷◌, [], ℕ, length, IfOk};
 ghost use Rattle.art_nodes.specs.Pointers.{opaque_pointer, slab_key};
-ghost use Rattle.art_arena.specs.FullPrefix.{match_of};
+ghost use Rattle.art_links.specs.FullPrefix.{match_of};
 ghost use Rattle.art_arena.specs.Standing.{TreeAt, TreeUnder};
 ghost use Rattle.art_arena.specs.Trees.{SameButPointers};
 

@@ -1,6 +1,6 @@
 //! The root of a tree.
 ghost use Rattle.std.specs.Option.{IfSome};
-ghost use Rattle.art_tree.specs.Search.{HasTree};
+ghost use Rattle.art_search.specs.Search.{HasTree};
 
 use super::*;
 

@@ -1,7 +1,7 @@
 //! A value changed in place, and a tree that is not empty.
 ghost use Rattle.std.specs.Prelude.{◌≡◌, IsTrue};
 ghost use Rattle.std.specs.Option.{option_map};
-ghost use Rattle.art_tree.specs.Dictionary.{entry_at, IsEmpty};
+ghost use Rattle.art_steps.specs.Dictionary.{entry_at, IsEmpty};
 
 use super::*;
 

@@ -7,12 +7,12 @@ ghost use Rattle.art_arena.specs.Arena.{held, HeldInner, Nothing};
 ghost use Rattle.art_arena.specs.Links.{HoldsLeaf};
 ghost use Rattle.art_arena.specs.Standing.{IsTreeIn, StandsIn, TreeAt};
 ghost use Rattle.art_arena.specs.Trees.{places, root_of, texts, IsSound, IsWellFormed, SameButPointers};
-ghost use Rattle.art_tree.specs.Art.{IsAlone};
-ghost use Rattle.art_tree.specs.Contexts.{Under, path_to, plug};
-ghost use Rattle.art_tree.specs.Dictionary.{entry_at, HasEntry, IsEntry};
-ghost use Rattle.art_tree.specs.Refusals.{texts_of};
-ghost use Rattle.art_tree.specs.Search.{HasTree, EachTree, scan};
-ghost use Rattle.art_tree.specs.declared.insert.InsertRefusal.TheVariants.{Prefix};
+ghost use Rattle.art_steps.specs.Art.{IsAlone};
+ghost use Rattle.art_steps.specs.Contexts.{Under, path_to, plug};
+ghost use Rattle.art_steps.specs.Dictionary.{entry_at, HasEntry, IsEntry};
+ghost use Rattle.art_steps.specs.Refusals.{texts_of};
+ghost use Rattle.art_search.specs.Search.{HasTree, EachTree, scan};
+ghost use Rattle.art_steps.specs.declared.faults.InsertRefusal.TheVariants.{Prefix};
 
 use super::*;
 use art_tree::{

@@ -1,6 +1,6 @@
 use Rattle.std.proofs.Common.{◌∙◌, rules, refl, sym, subst, IfSome}
 use Rattle.art_arena.specs.Trees.{leaves}
-use Rattle.art_tree.specs.Art.{IsAlone, IsArt}
+use Rattle.art_steps.specs.Art.{IsAlone, IsArt}
 use Rattle.art_index.specs.Descent.{IsDeep}
 use Rattle.art_index.specs.Places.{IsPlaced}
 use Rattle.art_index.proofs.LinkLemmas.{placed-up-to}

@@ -1,6 +1,6 @@
 use Rattle.std.proofs.Common.{◌∙◌, rules, sym, subst}
 use Rattle.art_arena.specs.Standing.{TreeAt}
-use Rattle.art_tree.specs.Art.{IsArt}
+use Rattle.art_steps.specs.Art.{IsArt}
 use Rattle.art_index.specs.Places.{IsFirst}
 use Rattle.art_index.proofs.LinkLemmas.{first-placed}
 use Rattle.art_index.proofs.PlaceLemmas.{no-entries, whole-at}

@@ -3,8 +3,8 @@ use Rattle.std.proofs.lemmas.List.Elements.{All-nil}
 use Rattle.std.specs.declared.cmp.Ordering.TheVariants.{Greater}
 use Rattle.art_bytes.specs.Text.{text_order}
 use Rattle.art_arena.specs.Standing.{TreeAt}
-use Rattle.art_tree.specs.Art.{IsAlone, IsArt}
-use Rattle.art_tree.specs.Search.{HasTree}
+use Rattle.art_steps.specs.Art.{IsAlone, IsArt}
+use Rattle.art_search.specs.Search.{HasTree}
 use Rattle.art_index.specs.Places.{AllAbove, IsFloorFound}
 use Rattle.art_index.proofs.DescentLemmas.{part-at}
 use Rattle.art_index.proofs.FloorLemmas.{floor-up-to}

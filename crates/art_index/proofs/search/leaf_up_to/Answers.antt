@@ -5,7 +5,7 @@ use Rattle.art_nodes.specs.Pointers.{slab_key}
 use Rattle.art_arena.specs.Ends.{IsAtEnd}
 use Rattle.art_arena.specs.Links.{HoldsLeaf, leaf_at, previous_at}
 use Rattle.art_arena.specs.Trees.{leaves}
-use Rattle.art_tree.specs.Search.{leaf_pointer}
+use Rattle.art_search.specs.Search.{leaf_pointer}
 use Rattle.art_index.specs.Descent.{IsUpTo}
 use Rattle.art_index.proofs.PlaceLemmas.{slot-of}
 use Rattle.art_index.proofs.search.leaf_up_to.Goals as goal

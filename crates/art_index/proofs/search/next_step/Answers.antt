@@ -5,7 +5,7 @@ use Rattle.art_arena.proofs.StandingLaws.{at-some, inner-there}
 use Rattle.art_arena.specs.Arena.{HeldInner, Nothing, held}
 use Rattle.art_arena.specs.InnerRef.{inner_shown}
 use Rattle.art_arena.specs.Reader.{shown}
-use Rattle.art_tree.specs.Search.{leaf_pointer}
+use Rattle.art_search.specs.Search.{leaf_pointer}
 use Rattle.art_index.specs.Descent.{IsBeside, LeadsTo}
 use Rattle.art_index.proofs.DescentLemmas.{leads-held}
 use Rattle.art_index.proofs.search.next_step.Goals as goal

@@ -3,7 +3,7 @@ use Rattle.std.proofs.lemmas.List.{take_rest}
 use Rattle.std.specs.declared.cmp.Ordering.TheVariants.{Less, Equal, Greater}
 use Rattle.art_nodes.specs.Leaf.{leaf_key}
 use Rattle.art_arena.specs.Arena.{held, Nothing}
-use Rattle.art_tree.specs.Search.{leaf_pointer}
+use Rattle.art_search.specs.Search.{leaf_pointer}
 use Rattle.art_index.specs.Descent.{ComparesAs}
 use Rattle.art_index.proofs.DescentLemmas.{leads-held, leaf-deep, leaf-equal, leaf-fits, leaf-greater, leaf-less}
 use Rattle.art_index.proofs.search.step_at_leaf.Goals as goal

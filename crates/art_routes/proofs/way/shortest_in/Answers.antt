@@ -1,5 +1,5 @@
 use Rattle.std.proofs.Common.{◌≡◌, ◌∙◌, ◌+◌, ap, arith, refl, rules, subst, take}
-use Rattle.art_tree.specs.Art.{IsArt}
+use Rattle.art_steps.specs.Art.{IsArt}
 use Rattle.art_tree.specs.Entries.{entries_of}
 use Rattle.art_routes.specs.Keys.{key_text}
 use Rattle.art_routes.specs.Networks.{Block}

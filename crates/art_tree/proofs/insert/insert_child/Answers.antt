@@ -1,10 +1,10 @@
 use Rattle.art_tree.proofs.Names.{◌≡◌, ◌≢◌, ◌∙◌, ◌<◌, None, refl, sym, subst, child_at, node_kind, slab_key, held, HeldInner, Nothing, room, text_at, HasGap, HasRoomToGrow, LiesBeside, TellsFull, CanHang, HasPlaceAt, leaf_pointer, LeafKind, leaf-pointer-fits, places-apart, texts-apart, texts-ascend}
 use Rattle.art_nodes.specs.Inner.{Inner}
-use Rattle.art_tree.proofs.InsertLemmas.AddedChild.{ChildAdded, alone-there, child-added, child-gap, child-hangs, child-lies, child-reserved, linked-absent, linked-full, linked-held, linked-room, place-there, there-held, there-inner}
-use Rattle.art_tree.proofs.InsertLemmas.AddedLeaf.{entered-from}
+use Rattle.art_steps.proofs.InsertLemmas.AddedChild.{ChildAdded, alone-there, child-added, child-gap, child-hangs, child-lies, child-reserved, linked-absent, linked-full, linked-held, linked-room, place-there, there-held, there-inner}
+use Rattle.art_steps.proofs.InsertLemmas.AddedLeaf.{entered-from}
 use Rattle.art_tree.proofs.InsertLemmas.NeededChild.{child-lacks}
-use Rattle.art_tree.proofs.SharedLemmas.RoomLemmas.{grows-on, grows-then, same-capacity}
-use Rattle.art_tree.proofs.SharedLemmas.ParentLemmas.{err-then, ok-then}
+use Rattle.art_steps.proofs.SharedLemmas.RoomLemmas.{grows-on, grows-then, same-capacity}
+use Rattle.art_steps.proofs.SharedLemmas.ParentLemmas.{err-then, ok-then}
 use Rattle.art_tree.proofs.SharedLemmas.TreeLaws.{apart-there}
 use Rattle.art_tree.proofs.insert.insert_child.Goals as goal
 

@@ -1,7 +1,7 @@
 use Rattle.art_tree.proofs.Names.{◌≡◌, ◌∙◌, ap, sym, subst, arith, leaf_key, leaf_value, Leaf, IsAlone, leaf_pointer, LeafKind}
 use Rattle.art_tree.proofs.InsertLemmas.FirstEntry.{first-alone, first-entered}
 use Rattle.art_tree.proofs.InsertLemmas.NeededNodes.{first-lacks, first-memory}
-use Rattle.art_tree.proofs.SharedLemmas.RoomLemmas.{none-left}
+use Rattle.art_steps.proofs.SharedLemmas.RoomLemmas.{none-left}
 use Rattle.art_tree.proofs.SharedLemmas.TreeLaws.{apart-there}
 use Rattle.art_tree.proofs.insert.insert_first.Goals as goal
 

@@ -1,10 +1,10 @@
 use Rattle.art_tree.proofs.Names.{◌≡◌, ◌≢◌, ◌<◌, ◌≤◌, ◌∙◌, ◌+◌, ◌-◌, ◌^◌, length, sym, subst, arith, refl, slice_get_within, Node4, LeafKind, slab_key, held, HeldInner, Nothing, room, HoldsLeaf, text_at, TreeAt, HasGap, LiesBeside, CanHang, leaf_pointer, leaf-pointer-fits, places-apart, texts-apart, texts-ascend}
 use Rattle.art_nodes.specs.Inner.{Inner}
-use Rattle.art_tree.proofs.InsertLemmas.AddedLeaf.{entered-from}
+use Rattle.art_steps.proofs.InsertLemmas.AddedLeaf.{entered-from}
 use Rattle.art_tree.proofs.InsertLemmas.NeededFork.{fork-lacks}
 use Rattle.art_tree.proofs.InsertLemmas.AddedFork.{alone-there, beside-there, fork-added, fork-hangs, fork-reserved, gap-there, index-within, lies-there, linked-held, new-leaf-held, sibling-held, text-there, tree-there, within-there}
-use Rattle.art_tree.proofs.SharedLemmas.RoomLemmas.{grows-on, grows-then, same-capacity, same-room}
-use Rattle.art_tree.proofs.SharedLemmas.ParentLemmas.{err-then, ok-then}
+use Rattle.art_steps.proofs.SharedLemmas.RoomLemmas.{grows-on, grows-then, same-capacity, same-room}
+use Rattle.art_steps.proofs.SharedLemmas.ParentLemmas.{err-then, ok-then}
 use Rattle.art_tree.proofs.SharedLemmas.TreeLaws.{apart-there}
 use Rattle.art_tree.proofs.insert.insert_fork.Goals as goal
 

@@ -1,7 +1,7 @@
 use Rattle.art_tree.proofs.Names.{◌<◌, ◌^◌, ◌≤◌, length, None, IfSome, [], refl, sym, ap, subst, inl, inr, arith, option_map, IsArt, IsAlone, Clashes, AddsEntry, Belongs, LacksChild, Parts, EachTree, leaf_pointer, Tree, texts, KeyTooLong, Prefix, leaf-pointer-fits, spot-fits, texts-apart}
 use Rattle.art_tree.proofs.InsertLemmas.EntryLemmas.{answered, apart-new, child-apart, clash-entry, empty-new, empty-stays, fork-apart, present-new, untouched-refused}
-use Rattle.art_tree.proofs.SharedLemmas.ExchangedTree.{entries-stay}
-use Rattle.art_tree.proofs.PlaceLemmas.WayPlaces.{begins-clash, extends-clash}
+use Rattle.art_steps.proofs.SharedLemmas.ExchangedTree.{entries-stay}
+use Rattle.art_steps.proofs.PlaceLemmas.WayPlaces.{begins-clash, extends-clash}
 use Rattle.art_tree.proofs.SharedLemmas.TreeLaws.{apart-there}
 use Rattle.art_tree.proofs.insert.insert_new.Goals as goal
 

@@ -1,4 +1,4 @@
-use Rattle.art_tree.proofs.SharedLemmas.ExchangedSubtree.{sound-under, sound-exchanged, leaves-plug, smallest_kinds-whole, stands-part, stands-whole}
+use Rattle.art_steps.proofs.SharedLemmas.ExchangedSubtree.{sound-under, sound-exchanged, leaves-plug, smallest_kinds-whole, stands-part, stands-whole}
 use Rattle.art_tree.proofs.Names.{places-apart, plug}
 use Rattle.art_tree.proofs.laws.a_subtree_may_be_exchanged.Goals as goal
 

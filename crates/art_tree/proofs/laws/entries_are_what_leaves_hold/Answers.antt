@@ -1,6 +1,6 @@
 use Rattle.art_tree.proofs.Names.{[], texts-apart}
-use Rattle.art_tree.proofs.SharedLemmas.DictionaryLemmas.{empty-entry, entry-of-member, entry-of-text, leaf-held-in, text-found, text-of-entry}
-use Rattle.art_tree.proofs.PlaceLemmas.WayPlaces.{some-text}
+use Rattle.art_steps.proofs.SharedLemmas.DictionaryLemmas.{empty-entry, entry-of-member, entry-of-text, leaf-held-in, text-found, text-of-entry}
+use Rattle.art_steps.proofs.PlaceLemmas.WayPlaces.{some-text}
 use Rattle.art_tree.proofs.laws.entries_are_what_leaves_hold.Goals as goal
 
 pub returns-clause-none : goal.returns-clause-none

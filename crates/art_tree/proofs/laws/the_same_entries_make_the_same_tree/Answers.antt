@@ -1,5 +1,5 @@
 use Rattle.art_tree.proofs.Names.{◌≡◌, [], texts, same_texts, texts-apart, texts-ascend}
-use Rattle.art_tree.proofs.SharedLemmas.DictionaryLemmas.{entry-of-text, text-of-entry}
+use Rattle.art_steps.proofs.SharedLemmas.DictionaryLemmas.{entry-of-text, text-of-entry}
 use Rattle.art_tree.proofs.SharedLemmas.SameKinds.{same-kinds}
 use Rattle.art_tree.proofs.SharedLemmas.UniqueTree.{same-tree}
 use Rattle.art_tree.proofs.laws.the_same_entries_make_the_same_tree.Goals as goal

@@ -1,5 +1,5 @@
 use Rattle.art_tree.proofs.Names.{◌<◌, ◌≤◌, length, vec_capacity, All, ◌∙◌, refl, sym, subst, arith, vec_len, room, length-map, IsPlanOf, texts_of, HaveNoFault, LeafKind, leaf-pointer-fits, prepared-fits}
-use Rattle.art_tree.proofs.LoadLemmas.RefusalLemmas.{loadable}
+use Rattle.art_steps.proofs.LoadLemmas.RefusalLemmas.{loadable}
 use Rattle.art_tree.proofs.LoadLemmas.LoadedTree.{loaded-same}
 use Rattle.art_tree.proofs.loading.load.Goals as goal
 

@@ -1,6 +1,6 @@
 use Rattle.art_tree.proofs.Names.{◌∙◌, lit<, arith, on_ok_weaker, Node4, Node16, Node48, LeafKind, room, needed}
-use Rattle.art_tree.proofs.InsertLemmas.NodeLemmas.{kinds-apart}
-use Rattle.art_tree.proofs.LoadLemmas.PlacedTrees.{each-kind}
+use Rattle.art_steps.proofs.InsertLemmas.NodeLemmas.{kinds-apart}
+use Rattle.art_steps.proofs.LoadLemmas.PlacedTrees.{each-kind}
 use Rattle.art_tree.proofs.loading.reserve_nodes.Goals as goal
 
 pub returns-in_err-reserve-clause-leaf_room : goal.returns-in_err-reserve-clause-leaf_room

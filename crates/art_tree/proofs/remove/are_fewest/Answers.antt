@@ -1,5 +1,5 @@
 use Rattle.std.proofs.Common.{◌∙◌, refl}
-use Rattle.art_tree.proofs.RemoveLemmas.ShrunkNode.{counted}
+use Rattle.art_steps.proofs.RemoveLemmas.ShrunkNode.{counted}
 use Rattle.art_tree.proofs.remove.are_fewest.Goals as goal
 
 pub returns : goal.returns

@@ -2,8 +2,8 @@ use Rattle.art_tree.proofs.Names.{◌≡◌, ◌≢◌, ◌<◌, ◌≤◌, ◌�
 use Rattle.art_nodes.specs.Inner.{Inner}
 use Rattle.art_tree.proofs.RemoveLemmas.RemovedLeaf.{removed-from}
 use Rattle.art_tree.proofs.RemoveLemmas.RemovedChild.{tells-fewest, parent-held, parent-many, room-to-shrink, child-there, parent-is, many-hangs, many-removed, more-than-two, needs-smaller, not-least}
-use Rattle.art_tree.proofs.SharedLemmas.ExchangedTree.{alone-same}
-use Rattle.art_tree.proofs.SharedLemmas.RoomLemmas.{grows-on, grows-then, same-capacity}
+use Rattle.art_steps.proofs.SharedLemmas.ExchangedTree.{alone-same}
+use Rattle.art_steps.proofs.SharedLemmas.RoomLemmas.{grows-on, grows-then, same-capacity}
 use Rattle.art_tree.proofs.RemoveLemmas.LeafParent.{leaf-place}
 use Rattle.art_tree.proofs.RemoveLemmas.NeededNodes.{removal-lacks}
 use Rattle.art_tree.proofs.RemoveLemmas.RemovalLemmas.{frees-leaf}

@@ -1,6 +1,6 @@
 use Rattle.art_tree.proofs.Names.{◌∙◌, ◌≡◌, ◌≢◌, ◌<◌, ◌≤◌, ◌+◌, ◌^◌, ◌++◌, ◌∷◌, ℕ, List, length, lit<, node_kind, slab_key, held, HeldInner, Nothing, Spells, CanHang, LeafKind}
 use Rattle.art_nodes.specs.Inner.{Inner}
-use Rattle.art_tree.proofs.SharedLemmas.RoomLemmas.{same-capacity}
+use Rattle.art_steps.proofs.SharedLemmas.RoomLemmas.{same-capacity}
 use Rattle.art_tree.proofs.RemoveLemmas.MergedNode.{child-held, parent-held, parent-joined, parent-two, short-there, two-hangs, two-removed}
 use Rattle.art_tree.proofs.RemoveLemmas.LeafParent.{leaf-place}
 use Rattle.art_tree.proofs.RemoveLemmas.RemovalLemmas.{frees-two}

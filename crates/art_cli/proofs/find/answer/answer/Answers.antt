@@ -1,8 +1,8 @@
 use Rattle.std.proofs.Common.{rules, ◌≡◌, ◌≢◌, ◌∙◌, ◌+◌, ◌-◌, Some, length, refl, sym, subst, inl, inr, arith}
 use Rattle.art_arena.specs.Arena.{held, Nothing}
 use Rattle.art_arena.specs.Standing.{IsTreeIn}
-use Rattle.art_tree.specs.Art.{IsArt}
-use Rattle.art_tree.specs.Search.{leaf_pointer, met}
+use Rattle.art_steps.specs.Art.{IsArt}
+use Rattle.art_search.specs.Search.{leaf_pointer, met}
 use Rattle.art_cli.proofs.FindLemmas.{found_number, none_there, same_texts}
 use Rattle.art_cli.proofs.find.answer.answer.Goals as goal
 

@@ -1,5 +1,5 @@
 use Rattle.std.proofs.Common.{◌≡◌, ◌∙◌, ℕ, ◌+◌, [], string_bytes, refl, sym, ap, subst, option_map, rules, append-nil, None}
-use Rattle.art_tree.specs.Dictionary.{entry_at}
+use Rattle.art_steps.specs.Dictionary.{entry_at}
 use Rattle.art_cli.specs.Find.{with_text}
 use Rattle.art_cli.specs.Answer.{IsCarriedOut, IsAnswer, answer_text, removal_text}
 use Rattle.program_lines.specs.Lines.{line}

@@ -1,5 +1,5 @@
 use Rattle.std.proofs.Common.{◌≢◌, IfErr, subst}
-use Rattle.art_tree.specs.declared.insert.InsertRefusal.TheVariants.{OutOfMemory}
+use Rattle.art_steps.specs.declared.faults.InsertRefusal.TheVariants.{OutOfMemory}
 use Rattle.art_map_tests.proofs.map.reserved_entries.enter.Goals as goal
 
 pub returns-in-Ok-clause-lasts : goal.returns-in-Ok-clause-lasts

@@ -1,7 +1,7 @@
 use Rattle.std.proofs.Common.{◌≡◌, ◌≢◌, ◌∙◌, IfErr, length, vec_len, ap, arith, subst}
 use Rattle.std.specs.Vec.Iter.{into_iter_items}
-use Rattle.art_tree.specs.Room.{HasEntryRoom}
-use Rattle.art_tree.specs.declared.insert.InsertRefusal.TheVariants.{OutOfMemory}
+use Rattle.art_steps.specs.Room.{HasEntryRoom}
+use Rattle.art_steps.specs.declared.faults.InsertRefusal.TheVariants.{OutOfMemory}
 use Rattle.art_map_tests.proofs.map.reserved_entries.enter_each.Goals as goal
 
 pub each-init : goal.each-init

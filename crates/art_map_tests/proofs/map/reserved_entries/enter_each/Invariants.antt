@@ -1,6 +1,6 @@
 use Rattle.std.proofs.Common.{length}
 use Rattle.std.specs.Vec.Iter.{into_iter_items}
-use Rattle.art_tree.specs.Room.{HasEntryRoom}
+use Rattle.art_steps.specs.Room.{HasEntryRoom}
 use Rattle.art_map_tests.proofs.map.reserved_entries.enter_each.Given as goal
 
 -- there is room for the entries that are left

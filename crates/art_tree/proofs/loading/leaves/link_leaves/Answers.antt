@@ -1,8 +1,8 @@
 use Rattle.art_tree.proofs.Names.{◌≡◌, ◌∙◌, ◌-◌, [], ◌∷◌, ◌++◌, length, length-append, take, slice_get, Some, sym, ap, subst, arith, refl, lit<, append_assoc, option_copied, option_to_list, into_iter_items, room, AreLinked, knit-member, next-member, LeafKind}
 use Rattle.art_tree.proofs.LoadLemmas.LeafLists.{none-linked, allocated, first-linked, next-linked, unlinked, sibling-knit, two-texts, last-split, none-left}
-use Rattle.art_tree.proofs.SharedLemmas.PrefixLemmas.{less-same}
-use Rattle.art_tree.proofs.LoadLemmas.RefusalLemmas.{forks-less}
-use Rattle.art_tree.proofs.SharedLemmas.RoomLemmas.{same-room}
+use Rattle.art_steps.proofs.SharedLemmas.PrefixLemmas.{less-same}
+use Rattle.art_steps.proofs.LoadLemmas.RefusalLemmas.{forks-less}
+use Rattle.art_steps.proofs.SharedLemmas.RoomLemmas.{same-room}
 use Rattle.art_tree.proofs.loading.leaves.link_leaves.Goals as goal
 use Rattle.art_tree.proofs.loading.leaves.link_leaves.Goals.{in-Some-last, in_default-last}
 

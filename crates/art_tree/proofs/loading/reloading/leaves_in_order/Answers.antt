@@ -1,6 +1,6 @@
 use Rattle.art_tree.proofs.Names.{◌∙◌, [], ◌∷◌, Some, length, length-append, sym, ap, subst, arith, lit<, option_and_then, option_map, next_key, slab_key, leaf_at, TreeAt, leaf-pointer-fits, slice-fits}
 use Rattle.art_tree.proofs.LoadLemmas.ReloadedTree.{IsGathered, gathered-all, gathered-fits, gathered-held, gathered-next, gathered-start}
-use Rattle.art_tree.proofs.SharedLemmas.HeldNodes.{leaf-of}
+use Rattle.art_links.proofs.HeldNodes.{leaf-of}
 use Rattle.art_tree.proofs.loading.reloading.leaves_in_order.Goals as goal
 
 pub end_leaf-requires : goal.end_leaf-requires

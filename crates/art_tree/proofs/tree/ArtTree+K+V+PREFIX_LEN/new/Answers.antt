@@ -1,4 +1,4 @@
-use Rattle.art_tree.proofs.SharedLemmas.DictionaryLemmas.{empty-entry}
+use Rattle.art_steps.proofs.SharedLemmas.DictionaryLemmas.{empty-entry}
 use Rattle.art_tree.proofs.SharedLemmas.KeyLemmas.{keys-none}
 use Rattle.art_tree.proofs.tree.ArtTree+K+V+PREFIX_LEN.new.Goals as goal
 

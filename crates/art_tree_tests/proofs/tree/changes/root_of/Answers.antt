@@ -1,8 +1,8 @@
 use Rattle.std.proofs.Common.{◌≡◌, ℕ, List, Option, Some, None, IfSome, subst, sym}
 use Rattle.art_nodes.specs.declared.pointers.OpaqueNodePtr.{OpaqueNodePtr}
 use Rattle.art_arena.specs.Arena.{NodeArena}
-use Rattle.art_tree.specs.Art.{IsArt}
-use Rattle.art_tree.specs.Search.{HasTree}
+use Rattle.art_steps.specs.Art.{IsArt}
+use Rattle.art_search.specs.Search.{HasTree}
 use Rattle.art_tree_tests.proofs.tree.changes.root_of.Goals as goal
 
 -- at the root of one tree a tree stands

@@ -4,11 +4,11 @@ use Rattle.art_header.specs.declared.node_type.NodeType.TheVariants as kinds
 use Rattle.art_nodes.specs.Pointers.{opaque_pointer}
 use Rattle.art_arena.specs.Arena.{room}
 use Rattle.art_arena.specs.Trees.{Leaf}
-use Rattle.art_tree.specs.Art.{IsArt}
-use Rattle.art_tree.specs.Insertion.{IsRefused}
-use Rattle.art_tree.specs.NodeCounts.{one_if_same, nodes_of}
-use Rattle.art_tree.specs.Room.{HasFewer, LacksRoomToInsert}
-use Rattle.art_tree.specs.declared.insert.InsertRefusal.TheVariants.{OutOfMemory}
+use Rattle.art_steps.specs.Art.{IsArt}
+use Rattle.art_steps.specs.Insertion.{IsRefused}
+use Rattle.art_steps.specs.NodeCounts.{one_if_same, nodes_of}
+use Rattle.art_steps.specs.Room.{HasFewer, LacksRoomToInsert}
+use Rattle.art_steps.specs.declared.faults.InsertRefusal.TheVariants.{OutOfMemory}
 use Rattle.art_tree_tests.proofs.tree.reserving.insert_first_reserved.Goals as goal
 
 each-error : {A E : Type 0} (P Q R : E → Type 0) → ((e : E) → P e → Q e → R e) → (r : Result A E) → IfErr r P → IfErr r Q → IfErr r R

@@ -1,7 +1,7 @@
 use Rattle.std.proofs.Common.{◌≡◌, ◌≢◌, Result, Ok, Err, IfErr, arith}
 use Rattle.art_header.specs.declared.node_type.NodeType.{NodeType}
-use Rattle.art_tree.specs.Room.{LacksRoomToInsert}
-use Rattle.art_tree.specs.declared.insert.InsertRefusal.TheVariants.{OutOfMemory}
+use Rattle.art_steps.specs.Room.{LacksRoomToInsert}
+use Rattle.art_steps.specs.declared.faults.InsertRefusal.TheVariants.{OutOfMemory}
 use Rattle.art_tree_tests.proofs.tree.reserving.insert_reserved.Goals as goal
 
 each-error : {A E : Type 0} (P Q : E → Type 0) → ((e : E) → P e → Q e) → (r : Result A E) → IfErr r P → IfErr r Q

@@ -5,7 +5,7 @@ use Rattle.art_nodes.specs.Inner.{HasRoomFor, node_with_child}
 use Rattle.art_nodes.specs.Pointers.{opaque_pointer, slab_key}
 use Rattle.art_arena.specs.Arena.{HeldInner, held, with_node}
 use Rattle.art_arena.specs.Trees.{places}
-use Rattle.art_tree.specs.Contexts.{Under, IsExchanged}
+use Rattle.art_steps.specs.Contexts.{Under, IsExchanged}
 use Rattle.art_tree_tests.proofs.tree.tree_examples.exchange_child.Goals as goal
 
 not-none : {A : Type 0} (o : Option A) → o ≢ None → IsNone o → ⊥

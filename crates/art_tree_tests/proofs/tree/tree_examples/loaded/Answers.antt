@@ -2,8 +2,8 @@ use Rattle.std.proofs.Common.{◌≡◌, ◌∙◌, ℕ, List, All, Option, Resu
 use Rattle.std.proofs.lemmas.List.Elements.{All-contains, All-map}
 use Rattle.std.specs.Result.{result_ok}
 use Rattle.art_arena.specs.Arena.{NodeArena}
-use Rattle.art_tree.specs.Dictionary.{HasEntry, IsEntry}
-use Rattle.art_tree.specs.Refusals.{texts_of}
+use Rattle.art_steps.specs.Dictionary.{HasEntry, IsEntry}
+use Rattle.art_steps.specs.Refusals.{texts_of}
 use Rattle.art_tree_tests.proofs.tree.tree_examples.loaded.Goals as goal
 
 -- each text of entries has one

@@ -1,5 +1,5 @@
 use Rattle.std.proofs.Common.{Result, Ok, Err, IfErr, subst}
-use Rattle.art_tree.specs.Insertion.{IsRefused}
+use Rattle.art_steps.specs.Insertion.{IsRefused}
 use Rattle.art_tree_tests.proofs.tree.tree_examples.put_apart.Goals as goal
 
 each-error : {A E : Type 0} (P Q : E → Type 0) → ((e : E) → P e → Q e) → (r : Result A E) → IfErr r P → IfErr r Q

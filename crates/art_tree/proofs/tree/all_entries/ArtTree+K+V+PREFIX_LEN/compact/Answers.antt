@@ -1,5 +1,5 @@
 use Rattle.art_tree.proofs.Names.{◌∙◌, ap, lit<, subst, sym, IsArt, entry_at}
-use Rattle.art_tree.proofs.SharedLemmas.DictionaryLemmas.{empty-entry}
+use Rattle.art_steps.proofs.SharedLemmas.DictionaryLemmas.{empty-entry}
 use Rattle.art_tree.proofs.SharedLemmas.KeyLemmas.{keys-none, keys-same}
 use Rattle.art_tree.proofs.tree.all_entries.ArtTree+K+V+PREFIX_LEN.compact.Goals as goal
 

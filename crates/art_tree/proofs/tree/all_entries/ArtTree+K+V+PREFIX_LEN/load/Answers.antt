@@ -1,7 +1,7 @@
 use Rattle.art_tree.proofs.Names.{[], texts_of, texts-apart}
-use Rattle.art_tree.proofs.SharedLemmas.DictionaryLemmas.{alone-loaded, loaded-entry, loaded-text}
+use Rattle.art_steps.proofs.SharedLemmas.DictionaryLemmas.{alone-loaded, loaded-entry, loaded-text}
 use Rattle.art_tree.proofs.SharedLemmas.KeyLemmas.{keys-loaded}
-use Rattle.art_tree.proofs.LoadLemmas.RefusalLemmas.{each-short}
+use Rattle.art_steps.proofs.LoadLemmas.RefusalLemmas.{each-short}
 use Rattle.art_tree.proofs.tree.all_entries.ArtTree+K+V+PREFIX_LEN.load.Goals as goal
 
 pub invariant_of-result : goal.invariant_of-result

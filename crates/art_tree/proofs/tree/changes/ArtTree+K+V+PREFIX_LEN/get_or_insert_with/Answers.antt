@@ -1,8 +1,8 @@
 use Rattle.art_tree.proofs.Names.{◌∙◌, refl, ap, sym, subst, option_map, same_Some, leaf_value, slab_key, HoldsLeaf, leaf_at, with_value_at, FindsEntry, HasValueNow, LacksRoomToInsert, GrowsOnlyWhere, leaf_pointer, held_leaf, leaf-pointer-fits, spot-fits}
 use Rattle.art_tree.proofs.SharedLemmas.EnteredValue.{entry-held, entry-written, text-held, value-found}
-use Rattle.art_tree.proofs.SharedLemmas.HeldNodes.{leaf-of}
+use Rattle.art_links.proofs.HeldNodes.{leaf-of}
 use Rattle.art_tree.proofs.SharedLemmas.LentValue.{leaf-there, value-entered, value-invariant, value-now}
-use Rattle.art_tree.proofs.SharedLemmas.RoomLemmas.{grows-on, same-capacity}
+use Rattle.art_steps.proofs.SharedLemmas.RoomLemmas.{grows-on, same-capacity}
 use Rattle.art_tree.proofs.tree.changes.ArtTree+K+V+PREFIX_LEN.get_or_insert_with.Goals as goal
 
 pub as_value_mut-requires : goal.as_value_mut-requires

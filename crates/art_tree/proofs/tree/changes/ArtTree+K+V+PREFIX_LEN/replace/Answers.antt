@@ -1,5 +1,5 @@
 use Rattle.art_tree.proofs.Names.{◌∙◌, ap, sym, subst, leaf_key, leaf_value, previous_key, next_key, slab_key, HoldsLeaf, IsPresent, ReplacesEntry, leaf-pointer-fits}
-use Rattle.art_tree.proofs.InsertLemmas.NodeLemmas.{one-leaf}
+use Rattle.art_steps.proofs.InsertLemmas.NodeLemmas.{one-leaf}
 use Rattle.art_tree.proofs.InsertLemmas.PlacedEntries.{exchanged, present-held, replaced-invariant, replaced-there}
 use Rattle.art_tree.proofs.tree.changes.ArtTree+K+V+PREFIX_LEN.replace.Goals as goal
 

@@ -1,5 +1,5 @@
 use Rattle.art_tree.proofs.Names.{◌∙◌, ap, sym, subst, [], slab_key, IsArt, entry_at, if_none_always, if_some_none, leaf-pointer-fits}
-use Rattle.art_tree.proofs.SharedLemmas.DictionaryLemmas.{empty-entry, end-held, end-entry, end-within, slot-held}
+use Rattle.art_steps.proofs.SharedLemmas.DictionaryLemmas.{empty-entry, end-held, end-entry, end-within, slot-held}
 use Rattle.art_tree.proofs.SharedLemmas.TreeLaws.{apart-there, ascend-there}
 use Rattle.art_tree.proofs.tree.ends.ArtTree+K+V+PREFIX_LEN.end_entry.Goals as goal
 

@@ -1,5 +1,5 @@
 use Rattle.art_tree.proofs.Names.{◌∙◌, ap, sym, subst, Some, IsArt, entry_at, HasTree, IsEndFound, leaf-pointer-fits, spot-fits}
-use Rattle.art_tree.proofs.SharedLemmas.DictionaryLemmas.{empty-entry}
+use Rattle.art_steps.proofs.SharedLemmas.DictionaryLemmas.{empty-entry}
 use Rattle.art_tree.proofs.RemoveLemmas.FoundLeaves.{end-found-there}
 use Rattle.art_tree.proofs.tree.ends.ArtTree+K+V+PREFIX_LEN.find_end.Goals as goal
 

@@ -1,5 +1,5 @@
 use Rattle.art_tree.proofs.Names.{◌∙◌, ap, sym, subst, IsArt, IsTreeIn, entry_at, IsFound}
-use Rattle.art_tree.proofs.SharedLemmas.DictionaryLemmas.{empty-entry}
+use Rattle.art_steps.proofs.SharedLemmas.DictionaryLemmas.{empty-entry}
 use Rattle.art_tree.proofs.RemoveLemmas.FoundLeaves.{search-found}
 use Rattle.art_tree.proofs.tree.reading.ArtTree+K+V+PREFIX_LEN.find.Goals as goal
 

@@ -1,5 +1,5 @@
 use Rattle.art_tree.proofs.Names.{◌∙◌, ap, sym, subst, slab_key, HoldsLeaf, entry_at, IsFound, leaf-pointer-fits, spot-fits}
-use Rattle.art_tree.proofs.SharedLemmas.DictionaryLemmas.{nothing-mapped}
+use Rattle.art_steps.proofs.SharedLemmas.DictionaryLemmas.{nothing-mapped}
 use Rattle.art_tree.proofs.RemoveLemmas.FoundLeaves.{entry-read, found-held, held-there}
 use Rattle.art_tree.proofs.tree.reading.ArtTree+K+V+PREFIX_LEN.get_key_value.Goals as goal
 

@@ -1,5 +1,5 @@
 use Rattle.art_tree.proofs.Names.{IsTrue, subst, IsEmpty}
-use Rattle.art_tree.proofs.SharedLemmas.DictionaryLemmas.{empty-if-none}
+use Rattle.art_steps.proofs.SharedLemmas.DictionaryLemmas.{empty-if-none}
 use Rattle.art_tree.proofs.RemoveLemmas.FoundLeaves.{some-entry}
 use Rattle.art_tree.proofs.tree.reading.ArtTree+K+V+PREFIX_LEN.is_empty.Goals as goal
 

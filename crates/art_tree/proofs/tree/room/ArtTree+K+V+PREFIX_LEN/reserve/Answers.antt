@@ -1,5 +1,5 @@
 use Rattle.art_tree.proofs.Names.{◌∙◌, ap, entry_at}
-use Rattle.art_tree.proofs.SharedLemmas.ExchangedTree.{art-same}
+use Rattle.art_steps.proofs.SharedLemmas.ExchangedTree.{art-same}
 use Rattle.art_tree.proofs.SharedLemmas.KeptEntries.{art-entries-stay}
 use Rattle.art_tree.proofs.SharedLemmas.KeyLemmas.{keys-same}
 use Rattle.art_tree.proofs.tree.room.ArtTree+K+V+PREFIX_LEN.reserve.Goals as goal

@@ -1,5 +1,5 @@
 use Rattle.art_tree.proofs.Names.{◌∙◌, ℕ, on_ok_weaker, NodeArena, HasRoomOf, LeafKind, Node16, Node256, Node4, Node48}
-use Rattle.art_tree.specs.Room.{HasEntryRoom}
+use Rattle.art_steps.specs.Room.{HasEntryRoom}
 use Rattle.art_tree.proofs.tree.room.ArtTree+K+V+PREFIX_LEN.reserve_entries.Goals as goal
 
 each-kind : {K V : Type 0} {P : ℕ} (arena : NodeArena K V P) (count : ℕ) → HasRoomOf LeafKind arena count → HasRoomOf Node4 arena count → HasRoomOf Node16 arena count → HasRoomOf Node48 arena count → HasRoomOf Node256 arena count → HasEntryRoom arena count

@@ -1,4 +1,0 @@
-use Rattle.art_arena.proofs.leaf_links.LeafNodeLeafLinks.is_linked.Goals as goal
-
-pub as_ref-leaf-requires : goal.as_ref-leaf-requires
-as_ref-leaf-requires g c = search

@@ -1,0 +1,2 @@
+pub mod FullPrefix
+pub mod Nodes

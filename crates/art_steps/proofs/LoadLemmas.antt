@@ -1,0 +1,4 @@
+pub mod OpenNodes
+pub mod PlacedTrees
+pub mod PlanLemmas
+pub mod RefusalLemmas

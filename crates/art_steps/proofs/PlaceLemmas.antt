@@ -1,0 +1,7 @@
+pub mod ChildrenBeside
+pub mod SharedSpots
+pub mod SideLemmas
+pub mod SidesAround
+pub mod TextsBelow
+pub mod TowardLemmas
+pub mod WayPlaces

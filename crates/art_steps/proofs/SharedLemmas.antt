@@ -1,0 +1,12 @@
+pub mod BranchLemmas
+pub mod ChangedTree
+pub mod DictionaryLemmas
+pub mod EndBranches
+pub mod ExchangedSubtree
+pub mod ExchangedTree
+pub mod NodeKinds
+pub mod ParentLemmas
+pub mod PrefixLemmas
+pub mod RoomLemmas
+pub mod SpelledLists
+pub mod TextLists

@@ -1,8 +1,0 @@
-use Rattle.art_tree.proofs.Names.{◌∙◌, sym, subst, IsFork}
-use Rattle.art_tree.proofs.LoadLemmas.RefusalLemmas.{fork-shared}
-use Rattle.art_tree.proofs.loading.steps.fork_index.Goals as goal
-
-pub returns : goal.returns
-returns c =
-    let (at, fork) = c.requires in
-    subst (IsFork c.args.text.now c.args.next.now) (sym (c.common_prefix_len.ensures ∙ fork-shared c.args.text.now c.args.next.now at fork)) fork
