@@ -13,9 +13,10 @@ ghost use Rattle.art_search.specs.Search.{HasTree, EachTree, leaf_pointer};
 ghost use Rattle.art_index.specs.Places.{IsFloorFound};
 ghost use Rattle.art_index.specs.Descent.{ComparesAs, GoesTo, IsBeside, IsDeeper, IsUpTo, LeadsTo, PassesPrefix, StaysIn};
 
-use art_arena::{End, FullPrefix, InnerRef, LeafPtr, NodeArena, end_leaf};
+use art_arena::{End, InnerRef, LeafPtr, NodeArena, end_leaf};
 use art_bytes::AsBytes;
 use art_keys::{RadixKey, RadixQuery};
+use art_links::FullPrefix;
 use art_nodes::{InnerNodeRead, OpaqueNodePtr};
 use art_tree::ArtTree;
 use std::cmp::Ordering;

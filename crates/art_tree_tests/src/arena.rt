@@ -2,6 +2,7 @@
 mod full_prefix;
 mod leaf_links;
 
-use art_arena::{ArenaNode, FullPrefix, NodeArena};
+use art_arena::{ArenaNode, NodeArena};
 use art_bytes::AsBytes;
+use art_links::FullPrefix;
 use art_nodes::{InnerNode4, InnerNodeCommon, InnerNodeRead, NodePtr};

@@ -8,8 +8,9 @@ ghost use Rattle.art_arena.specs.Trees.{SameButPointers};
 use art_arena::laws::{
     allocating_leaves_trees_standing, an_allocated_node_makes_a_tree, same_trees_match_alike,
 };
-use art_arena::{ArenaInnerNode, FullPrefix, NodeArena};
+use art_arena::{ArenaInnerNode, NodeArena};
 use art_bytes::AsBytes;
+use art_links::FullPrefix;
 use art_nodes::{
     ExplicitMismatch, InnerNode4, InnerNodeCommon, InnerNodeRead, LeafNode, NodePtr, OpaqueNodePtr,
     PrefixMatch,

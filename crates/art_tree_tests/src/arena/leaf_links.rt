@@ -1,6 +1,7 @@
 //! Leaves that are linked by hand.
-use art_arena::{LeafLinks, LeafPtr, NodeArena};
+use art_arena::{LeafPtr, NodeArena};
 use art_bytes::AsBytes;
+use art_links::LeafLinks;
 use art_nodes::{LeafNode, NodePtr};
 
 mod link_examples;
