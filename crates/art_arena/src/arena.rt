@@ -141,10 +141,7 @@ impl<K, V, const PREFIX_LEN: usize> NodeArena<K, V, PREFIX_LEN> {
     }
 
     /// The node at the pointer, if the arena holds one there.
-    pub(crate) fn get<N: ArenaNode<K, V, PREFIX_LEN>>(
-        &self,
-        ptr: NodePtr<PREFIX_LEN, N>,
-    ) -> Option<&N>
+    pub fn get<N: ArenaNode<K, V, PREFIX_LEN>>(&self, ptr: NodePtr<PREFIX_LEN, N>) -> Option<&N>
         ensures { held self.now (opaque_pointer N.TYPE (slab_key ptr)) ≡ held_option N.held_as
             (option_copied result) }
     {
