@@ -14,7 +14,7 @@ mod keys;
 mod link;
 mod parent;
 mod place;
-mod raise;
+mod raising;
 mod removed_child;
 mod reserving;
 mod steps;
@@ -29,7 +29,7 @@ pub use place::{
     Mismatch, Place, Side, Spot, find_place, leaf_beside, leaf_beside_child, leaves_beside,
     near_end,
 };
-pub use raise::raise;
+pub use raising::raise;
 pub use removed_child::{join_prefix, other_child, reserve_shrink, take_child};
 pub use reserving::{reserve_for_child, reserve_for_fork};
 pub use steps::{Step, count_nodes, plan};

@@ -1,7 +1,7 @@
 use Rattle.std.proofs.Common.{length, arith}
 use Rattle.art_steps.proofs.SharedLemmas.NodeKinds.{kind-4, kind-16, kind-48, kind-256}
 use Rattle.art_links.proofs.PlacedNodes.{placed-kind}
-use Rattle.art_steps.proofs.raise.allocate_node.Goals as goal
+use Rattle.art_steps.proofs.raising.allocate_node.Goals as goal
 
 pub returns-in-0-to-4 : goal.returns-in-0-to-4
 returns-in-0-to-4 g c = placed-kind _ _ (kind-4 (length c.args.children.now) (omega arith)) c.allocate_node_as.ensures

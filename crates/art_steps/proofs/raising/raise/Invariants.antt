@@ -1,6 +1,6 @@
 use Rattle.art_steps.proofs.Names.{◌≤◌, length, map, drop, vec_capacity, leaf_pairs, leaf_pointer}
 use Rattle.art_steps.proofs.LoadLemmas.PlacedTrees.{IsRising}
-use Rattle.art_steps.proofs.raise.raise.Given as goal
+use Rattle.art_steps.proofs.raising.raise.Given as goal
 
 -- the steps so far are done, and memory is left for every leaf
 abbrev pub invariant-loop-step : goal.invariant-loop-step

@@ -1,8 +1,8 @@
 use Rattle.art_steps.proofs.Names.{◌≡◌, ◌∙◌, ◌+◌, ◌-◌, ◌<◌, [], ◌∷◌, ◌++◌, length, map, take, drop, get_or, ap, sym, subst, arith, lit<, vec_capacity, ◌^◌, kind_for, IsAscending, key_bytes, slab_key, NodePtr, LeafNode, room, text_at, leaf_pairs, leaf_pointer, Spans}
 use Rattle.art_steps.proofs.LoadLemmas.PlanLemmas.{plan-leads}
 use Rattle.art_steps.proofs.LoadLemmas.PlacedTrees.{IsRising, at_leaf, at_inner, rising-none, texts-of-pairs, pair-there, pointer-there, rise-leaf, rise-inner-called, one-pending, last-part, risen}
-use Rattle.art_steps.proofs.raise.raise.Goals as goal
-use Rattle.art_steps.proofs.raise.raise.Goals.{in-Leaf, in-Inner}
+use Rattle.art_steps.proofs.raising.raise.Goals as goal
+use Rattle.art_steps.proofs.raising.raise.Goals.{in-Leaf, in-Inner}
 use Rattle.art_links.proofs.HeldNodes.{leaf-there}
 
 pub loop-step-init : goal.loop-step-init
