@@ -55,3 +55,15 @@ as_mut-requires-in-Node48 g c = (search, (search, (search, (search, (search, (li
 
 pub as_mut-requires-in-Node256 : goal.as_mut-requires-in-Node256
 as_mut-requires-in-Node256 g c = (search, (search, (search, (search, (search, (lit< tt, subst (λ p. held c.args.self.now p ≢ Nothing) (sym c.in-Node256.ensures.undone) c.requires.held))))))
+
+pub remove_child-requires : goal.remove_child-requires
+remove_child-requires g c = (search, lit< tt)
+
+pub remove_child-requires-in-Node16 : goal.remove_child-requires-in-Node16
+remove_child-requires-in-Node16 g c = (search, lit< tt)
+
+pub remove_child-requires-in-Node48 : goal.remove_child-requires-in-Node48
+remove_child-requires-in-Node48 g c = (search, lit< tt)
+
+pub remove_child-requires-in-Node256 : goal.remove_child-requires-in-Node256
+remove_child-requires-in-Node256 g c = (search, lit< tt)

@@ -43,3 +43,12 @@ as_mut-requires-in-Node48 g c = (search, (search, (search, (search, (search, (li
 
 pub as_mut-requires-in-Node256 : goal.as_mut-requires-in-Node256
 as_mut-requires-in-Node256 g c = (search, (search, (search, (search, (search, (lit< tt, subst (λ p. held c.args.self.now p ≢ Nothing) (sym c.in-Node256.ensures.undone) c.requires.held))))))
+
+pub set_prefix-requires : goal.set_prefix-requires
+set_prefix-requires g c = (search, search)
+
+pub set_prefix-requires-in-Node16 : goal.set_prefix-requires-in-Node16
+set_prefix-requires-in-Node16 g c = (search, search)
+
+pub set_prefix-requires-in-Node48 : goal.set_prefix-requires-in-Node48
+set_prefix-requires-in-Node48 g c = (search, search)
