@@ -1,5 +1,7 @@
-use Rattle.std.proofs.Common.{rules}
+use Rattle.std.proofs.Common.{lit<, ◌≢◌, sym, ap, subst, rules}
 use Rattle.art_nodes.specs.Inner.{node_with_prefix_of}
+use Rattle.art_nodes.specs.Pointers.{node_kind}
+use Rattle.art_arena.specs.Arena.{Nothing, held}
 use Rattle.art_arena.proofs.ArenaLemmas.{edited-there}
 use Rattle.art_arena.proofs.arena.NodeArena+K+V+PREFIX_LEN.set_prefix.Goals as goal
 
@@ -26,3 +28,27 @@ returns-in-Node256-clause-prefix g c = λ node is. edited-there (λ n. node_with
 
 pub returns-in-Node256-clause-room : goal.returns-in-Node256-clause-room
 returns-in-Node256-clause-room g c = c.as_mut-in-Node256.ensures.room _
+
+pub unreachable-requires : goal.unreachable-requires
+unreachable-requires g c = c.requires.inner (sym (ap node_kind c.in-LeafNode.ensures.undone))
+
+pub as_mut-requires : goal.as_mut-requires
+as_mut-requires g c = (search, (search, (search, (search, (search, (lit< tt, subst (λ p. held c.args.self.now p ≢ Nothing) (sym c.in-Node4.ensures.undone) c.requires.held))))))
+
+pub as_mut-requires-in-Node16 : goal.as_mut-requires-in-Node16
+as_mut-requires-in-Node16 g c = (search, (search, (search, (search, (search, (lit< tt, subst (λ p. held c.args.self.now p ≢ Nothing) (sym c.in-Node16.ensures.undone) c.requires.held))))))
+
+pub as_mut-requires-in-Node48 : goal.as_mut-requires-in-Node48
+as_mut-requires-in-Node48 g c = (search, (search, (search, (search, (search, (lit< tt, subst (λ p. held c.args.self.now p ≢ Nothing) (sym c.in-Node48.ensures.undone) c.requires.held))))))
+
+pub as_mut-requires-in-Node256 : goal.as_mut-requires-in-Node256
+as_mut-requires-in-Node256 g c = (search, (search, (search, (search, (search, (lit< tt, subst (λ p. held c.args.self.now p ≢ Nothing) (sym c.in-Node256.ensures.undone) c.requires.held))))))
+
+pub set_prefix-requires : goal.set_prefix-requires
+set_prefix-requires g c = (search, search)
+
+pub set_prefix-requires-in-Node16 : goal.set_prefix-requires-in-Node16
+set_prefix-requires-in-Node16 g c = (search, search)
+
+pub set_prefix-requires-in-Node48 : goal.set_prefix-requires-in-Node48
+set_prefix-requires-in-Node48 g c = (search, search)

@@ -1,6 +1,7 @@
-use Rattle.std.proofs.Common.{lit<, sym, ap}
+use Rattle.std.proofs.Common.{lit<, ◌≢◌, sym, ap, subst}
 use Rattle.art_nodes.specs.Inner.{node_with_child}
 use Rattle.art_nodes.specs.Pointers.{node_kind}
+use Rattle.art_arena.specs.Arena.{Nothing, held}
 use Rattle.art_arena.proofs.ArenaLemmas.{room-there, edited-there}
 use Rattle.art_arena.proofs.arena.NodeArena+K+V+PREFIX_LEN.write_child.Goals as goal
 
@@ -42,3 +43,15 @@ returns-in-Node256-clause-written g c = λ node is. edited-there (λ n. node_wit
 
 pub unreachable-requires : goal.unreachable-requires
 unreachable-requires g c = c.requires.inner (sym (ap node_kind c.in-LeafNode.ensures.undone))
+
+pub as_mut-requires : goal.as_mut-requires
+as_mut-requires g c = (search, (search, (search, (search, (search, (lit< tt, subst (λ p. held c.args.self.now p ≢ Nothing) (sym c.in-Node4.ensures.undone) c.requires.held))))))
+
+pub as_mut-requires-in-Node16 : goal.as_mut-requires-in-Node16
+as_mut-requires-in-Node16 g c = (search, (search, (search, (search, (search, (lit< tt, subst (λ p. held c.args.self.now p ≢ Nothing) (sym c.in-Node16.ensures.undone) c.requires.held))))))
+
+pub as_mut-requires-in-Node48 : goal.as_mut-requires-in-Node48
+as_mut-requires-in-Node48 g c = (search, (search, (search, (search, (search, (lit< tt, subst (λ p. held c.args.self.now p ≢ Nothing) (sym c.in-Node48.ensures.undone) c.requires.held))))))
+
+pub as_mut-requires-in-Node256 : goal.as_mut-requires-in-Node256
+as_mut-requires-in-Node256 g c = (search, (search, (search, (search, (search, (lit< tt, subst (λ p. held c.args.self.now p ≢ Nothing) (sym c.in-Node256.ensures.undone) c.requires.held))))))
