@@ -1,11 +1,16 @@
 -- Iterators over children: the remaining pairs after one is removed at the end.
-use Rattle.std.proofs.Common.{◌≡◌, ℕ, suc, ◌+◌, ◌<◌, List, [], ◌∷◌, ◌++◌, length, take, get_or, Option, Some, None, Contains, map, slice_get, unwrap_or, option_map, refl, ◌∙◌, ap, subst, arith}
+use Rattle.std.proofs.Common.{◌≡◌, ℕ, suc, ◌+◌, ◌-◌, ◌<◌, List, [], ◌∷◌, ◌++◌, length, take, drop, get_or, Option, Some, None, Contains, map, slice_get, unwrap_or, option_map, refl, sym, ◌∙◌, ap, subst, arith}
 use Rattle.std.specs.List.{zip}
-use Rattle.std.proofs.lemmas.List.{append-nil, take_more, length-take-le}
+use Rattle.std.proofs.lemmas.List.{append-nil, take_more, take_rest, length-take-le}
 use Rattle.art_nodes.specs.ChildMap.{ChildMap, table_children}
 use Rattle.art_nodes.proofs.TableLemmas.{table-append}
 
 module _ {H : Type 0} where
+  -- the first byte and the first child are the first pair
+  pub zip-first : (byte : ℕ) (bytes : List ℕ) (children : List H) (first : H) → length children ≡ length bytes + 1 → zip (byte ∷ bytes) children ≡ (byte, get_or children 0 first) ∷ zip bytes (take (length children - 1) (drop 1 children))
+  zip-first byte bytes [] first same = absurd (omega arith)
+  zip-first byte bytes (x ∷ children) first same = ap (λ rest. (byte, x) ∷ zip bytes rest) (sym (take_rest (x ∷ children) 1))
+
   -- the last byte and the last child are the last pair
   pub zip-last : (bytes : List ℕ) (children : List H) (byte : ℕ) (last : H) → length children ≡ length bytes + 1 → zip (bytes ++ byte ∷ []) children ≡ zip bytes (take (length bytes) children) ++ (byte, get_or children (length bytes) last) ∷ []
   zip-last [] [] byte last same = absurd (omega arith)

@@ -1,5 +1,6 @@
 use Rattle.std.proofs.Common.{◌-◌, length, take, drop, sym, ◌∙◌, ap, refl}
 use Rattle.std.proofs.lemmas.List.{take_rest}
+use Rattle.std.proofs.lemmas.List.Sums.{count_by-le-length}
 use Rattle.std.specs.List.{zip}
 use Rattle.art_nodes.specs.PairSources.{first_byte}
 use Rattle.art_nodes.proofs.RangeLemmas.{pairs_between, within-between, sorted-between, length-counted}
@@ -31,3 +32,18 @@ slice_bounds-over_sorted-end-2 g c = sym (length-counted _ c.args.keys.now c.arg
 
 pub over_sorted-requires : goal.over_sorted-requires
 over_sorted-requires g c = sym (slice_bounds-over_sorted-end-2 g c) ∙ slice_bounds-over_sorted-end g c
+
+pub slice_bounds-keys-count : goal.slice_bounds-keys-count
+slice_bounds-keys-count g c = rw c.count_below-from.ensures (count_by-le-length _ c.args.keys.now)
+
+pub slice_bounds-keys-start : goal.slice_bounds-keys-start
+slice_bounds-keys-start g c = rw c.count_below-from.ensures (count_by-le-length _ c.args.keys.now)
+
+pub offset_bounds-children-from : goal.offset_bounds-children-from
+offset_bounds-children-from g c = rw (c.requires.beside, c.count_below-from.ensures) (count_by-le-length _ c.args.keys.now)
+
+pub slice_bounds-children-count : goal.slice_bounds-children-count
+slice_bounds-children-count g c = rw (c.requires.beside, c.count_below-from.ensures) (count_by-le-length _ c.args.keys.now)
+
+pub slice_bounds-children-start : goal.slice_bounds-children-start
+slice_bounds-children-start g c = rw (c.requires.beside, c.count_below-from.ensures) (count_by-le-length _ c.args.keys.now)

@@ -1,6 +1,6 @@
-use Rattle.std.proofs.Common.{◌<◌, length, arith, ap, refl, sym, ◌∙◌}
+use Rattle.std.proofs.Common.{◌<◌, length, arith, rules, ap, refl, sym, ◌∙◌}
 use Rattle.std.proofs.lemmas.Option.{slice_get_read}
-use Rattle.art_nodes.proofs.SortedLemmas.{child_at-zip, child_at-zip_gap, without_child-zip_remove, without_child-zip_gap, sorted-remove}
+use Rattle.art_nodes.proofs.SortedLemmas.{bytes_counted, child_at-zip, child_at-zip_gap, without_child-zip_remove, without_child-zip_gap, sorted-remove}
 use Rattle.art_nodes.proofs.inner_nodes.representations.inner_node_sorted.InnerNodeSortedInnerNodeCommon.remove_child.Goals as goal
 
 pub invariant_of-self : goal.invariant_of-self
@@ -28,3 +28,27 @@ pub returns-in-Err-clause-removed : goal.returns-in-Err-clause-removed
 returns-in-Err-clause-removed g c =
     let gap = rw c.deref.ensures.0 at c.in-Err.ensures.absent in
     rw (← c.self.view_is) (ap (λ children. record { prefix_len = c.self.inside.header.prefix_len; stored = c.self.inside.header.stored; children = children }) (sym (without_child-zip_gap 0 _ _ _ _ c.self.invariant.beside c.self.invariant.ascending gap)))
+
+pub find_write_point-requires : goal.find_write_point-requires
+find_write_point-requires g c = rw c.deref.ensures.0 c.self.invariant.ascending
+
+pub remove-requires : goal.remove-requires
+remove-requires g c =
+    let at = rw c.deref.ensures.0 at c.in-Ok.ensures.existing in
+    (search rules, at.in_range)
+
+pub dec_num_children-requires : goal.dec_num_children-requires
+dec_num_children-requires g c =
+    let at = rw c.deref.ensures.0 at c.in-Ok.ensures.existing in
+    (search rules, omega (arith, at.in_range, bytes_counted c.self.invariant))
+
+pub remove-requires-in-Ok : goal.remove-requires-in-Ok
+remove-requires-in-Ok g c =
+    let at = rw c.deref.ensures.0 at c.in-Ok.ensures.existing in
+    (search rules, omega (arith, at.in_range, c.self.invariant.beside))
+
+pub returns-in-Ok-clause-sound : goal.returns-in-Ok-clause-sound
+returns-in-Ok-clause-sound g c = rw (← c.self.view_is) c.self.invariant.sound
+
+pub returns-in-Err-clause-sound : goal.returns-in-Err-clause-sound
+returns-in-Err-clause-sound g c = rw (← c.self.view_is) c.self.invariant.sound
