@@ -10,11 +10,11 @@ use Rattle.art_nodes.specs.Pointers.{node_kind, opaque_key, opaque_pointer}
 use Rattle.art_nodes.specs.declared.pointers.OpaqueNodePtr.{OpaqueNodePtr}
 use Rattle.art_nodes.specs.declared.leaf_node.LeafNode.{LeafNode}
 use Rattle.art_arena.specs.Arena.{NodeArena, Held, HeldInner, HeldLeaf, held, held_leaf, Changes}
-use Rattle.art_arena.specs.Links.{SameButLinks, Spells, SpellsAfter, leaf_at}
+use Rattle.art_arena.specs.Links.{IsLinkedAfter, IsLinkedList, SameButLinks, leaf_at}
 use Rattle.art_arena.specs.Standing.{StandsIn, AllStandIn}
 use Rattle.art_arena.specs.Trees.{Tree, Leaf, Inner, Branches, NoBranch, Branch}
 use Rattle.art_arena.proofs.StandingLaws.{leaf_place}
-use Rattle.art_arena.proofs.LeafLemmas.{Spells-kept, held_leaf-same, leaf_at-changed, leaf_at-other}
+use Rattle.art_arena.proofs.LeafLemmas.{IsLinkedList-kept, held_leaf-same, leaf_at-changed, leaf_at-other}
 
 module _ {K V : Type 0} {P : ℕ} where
   leaf_under : (arena : NodeArena K V P) (pointer : OpaqueNodePtr K V P) (leaf : LeafNode K V P) → held arena pointer ≡ HeldLeaf leaf → leaf_at arena (opaque_key pointer) ≡ Some leaf
@@ -61,24 +61,24 @@ module _ {K V : Type 0} {P : ℕ} (text : K → List ℕ) (old new : NodeArena K
 
 module _ {K V : Type 0} {P : ℕ} (old new : NodeArena K V P) where
   module _ (key : ℕ) (was now : LeafNode K V P) (found : leaf_at old key ≡ Some was) (changes : Changes old new (opaque_pointer kinds.Leaf key) (HeldLeaf now)) (same_previous : previous_key now ≡ previous_key was) (same_next : next_key now ≡ next_key was) where
-    spelled_on : (before : Option ℕ) (keys : List ℕ) → SpellsAfter old before keys → SpellsAfter new before keys
-    spelled_on before [] spelled = tt
-    spelled_on before (at ∷ keys) ((leaf, there, previous, next), rest) = (
+    list_on : (before : Option ℕ) (keys : List ℕ) → IsLinkedAfter old before keys → IsLinkedAfter new before keys
+    list_on before [] is_linked = tt
+    list_on before (at ∷ keys) ((leaf, there, previous, next), rest) = (
       elim (cases_eq at key) [
         | inl same ↦
             let one : leaf ≡ was = same_Some _ _ (sym there ∙ ap (leaf_at old) same ∙ found) in
             (now, ap (leaf_at new) same ∙ leaf_at-changed old new key now changes, same_previous ∙ ap previous_key (sym one) ∙ previous, same_next ∙ ap next_key (sym one) ∙ next)
         | inr differ ↦ (leaf, leaf_at-other old new key (HeldLeaf now) changes at differ ∙ there, previous, next)
       ],
-      spelled_on (Some at) keys rest,
+      list_on (Some at) keys rest,
     )
 
-    pub spells-exchanged : (keys : List ℕ) → Spells old keys → Spells new keys
-    spells-exchanged keys spells = record { distinct = spells.distinct; spelled = spelled_on None keys spells.spelled }
+    pub list-exchanged : (keys : List ℕ) → IsLinkedList old keys → IsLinkedList new keys
+    list-exchanged keys is_list = record { distinct = is_list.distinct; is_linked = list_on None keys is_list.is_linked }
 
   -- a node of another kind than a leaf changes
-  pub spells-beside : (pointer : OpaqueNodePtr K V P) (now : Held (OpaqueNodePtr K V P) (LeafNode K V P)) (keys : List ℕ) → node_kind pointer ≢ kinds.Leaf → Changes old new pointer now → Spells old keys → Spells new keys
-  spells-beside pointer now keys inner changes spells = Spells-kept old new keys (all keys) spells
+  pub list-beside : (pointer : OpaqueNodePtr K V P) (now : Held (OpaqueNodePtr K V P) (LeafNode K V P)) (keys : List ℕ) → node_kind pointer ≢ kinds.Leaf → Changes old new pointer now → IsLinkedList old keys → IsLinkedList new keys
+  list-beside pointer now keys inner changes is_list = IsLinkedList-kept old new keys (all keys) is_list
     where
       all : (keys : List ℕ) → AllByRecursion (λ key. leaf_at new key ≡ leaf_at old key) keys
       all [] = tt

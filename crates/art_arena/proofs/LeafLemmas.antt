@@ -1,4 +1,4 @@
--- Changes of the links of leaves, and the lists that they spell.
+-- Changes of the links of leaves, and the lists that they link.
 use Rattle.std.proofs.Common.{◌≡◌, ◌≢◌, ◌↔◌, ◌⊎◌, ◌∙◌, ℕ, List, [], ◌∷◌, ◌++◌, Option, Some, None, refl, sym, ap, subst, inl, inr, append_assoc, slice_set}
 use Rattle.std.specs.Option.{ForSome, option_and_then, option_map}
 use Rattle.slab.specs.Slab as slabs
@@ -12,7 +12,7 @@ use Rattle.art_nodes.specs.Leaf.{leaf_key, leaf_value, previous_key, next_key, w
 use Rattle.art_nodes.specs.declared.pointers.OpaqueNodePtr.{OpaqueNodePtr}
 use Rattle.art_nodes.specs.declared.leaf_node.LeafNode.{LeafNode}
 use Rattle.art_arena.specs.Arena.{LeafPtr, NodeArena, Held, Nothing, HeldInner, HeldLeaf, held_leaf, held, Changes}
-use Rattle.art_arena.specs.Links.{leaf_at, previous_at, next_at, Spells, SpellsAfter, HoldsLeaf, IsUnlinked, IsKnit, SameButLinks, Joins, StandsBetween, TakesPlace, with_value_at}
+use Rattle.art_arena.specs.Links.{leaf_at, previous_at, next_at, IsLinkedList, IsLinkedAfter, HoldsLeaf, IsUnlinked, IsKnit, SameButLinks, Joins, StandsBetween, TakesPlace, with_value_at}
 use Rattle.art_arena.specs.Relinking.{SetsBoth, SetsNext, SetsPrevious}
 use Rattle.art_arena.proofs.LinkedLists.{first_or, last_or, last_or-push, last_or-each, first_or-each, first_or-slice_get, Linked, Linked-split, Linked-exchanged, unlinked_is_apart, Each-append, Each-split, Each-weaker, Distinct-from, AreDistinct-from, Distinct-insert, Distinct-remove}
 
@@ -208,20 +208,20 @@ module _ {K V : Type 0} {P : ℕ} where
         other_leaves = λ k not_this not_gone not_before not_after. cut.other_leaves k not_gone ∙ placed.other_leaves k not_this not_before not_after;
       }
 
-  Linked-from : (arena : NodeArena K V P) (before : Option ℕ) (keys : List ℕ) → SpellsAfter arena before keys → Linked (next_at arena) (previous_at arena) before keys None
-  Linked-from arena before [] spelled = tt
-  Linked-from arena before (key ∷ keys) spelled =
-      (ap (option_and_then previous_key) spelled.0.1 ∙ spelled.0.2, ap (option_and_then next_key) spelled.0.1 ∙ spelled.0.3 ∙ sym (first_or-slice_get keys), Linked-from arena (Some key) keys spelled.1)
+  Linked-from : (arena : NodeArena K V P) (before : Option ℕ) (keys : List ℕ) → IsLinkedAfter arena before keys → Linked (next_at arena) (previous_at arena) before keys None
+  Linked-from arena before [] is_linked = tt
+  Linked-from arena before (key ∷ keys) is_linked =
+      (ap (option_and_then previous_key) is_linked.0.1 ∙ is_linked.0.2, ap (option_and_then next_key) is_linked.0.1 ∙ is_linked.0.3 ∙ sym (first_or-slice_get keys), Linked-from arena (Some key) keys is_linked.1)
 
-  Held-from : (arena : NodeArena K V P) (before : Option ℕ) (keys : List ℕ) → SpellsAfter arena before keys → AllByRecursion (HoldsLeaf arena) keys
-  Held-from arena before [] spelled = tt
-  Held-from arena before (key ∷ keys) spelled = (HoldsLeaf-found arena key spelled.0.0 spelled.0.1, Held-from arena (Some key) keys spelled.1)
+  Held-from : (arena : NodeArena K V P) (before : Option ℕ) (keys : List ℕ) → IsLinkedAfter arena before keys → AllByRecursion (HoldsLeaf arena) keys
+  Held-from arena before [] is_linked = tt
+  Held-from arena before (key ∷ keys) is_linked = (HoldsLeaf-found arena key is_linked.0.0 is_linked.0.1, Held-from arena (Some key) keys is_linked.1)
 
-  SpellsAfter-from : (arena : NodeArena K V P) (before : Option ℕ) (keys : List ℕ) → AllByRecursion (HoldsLeaf arena) keys → Linked (next_at arena) (previous_at arena) before keys None → SpellsAfter arena before keys
-  SpellsAfter-from arena before [] held linked = tt
-  SpellsAfter-from arena before (key ∷ keys) held linked =
+  IsLinkedAfter-from : (arena : NodeArena K V P) (before : Option ℕ) (keys : List ℕ) → AllByRecursion (HoldsLeaf arena) keys → Linked (next_at arena) (previous_at arena) before keys None → IsLinkedAfter arena before keys
+  IsLinkedAfter-from arena before [] held linked = tt
+  IsLinkedAfter-from arena before (key ∷ keys) held linked =
       let some = leaf_held arena key held.0 in
-      ((some.0, some.1, sym (ap (option_and_then previous_key) some.1) ∙ linked.0, sym (ap (option_and_then next_key) some.1) ∙ linked.1 ∙ first_or-slice_get keys), SpellsAfter-from arena (Some key) keys held.1 linked.2)
+      ((some.0, some.1, sym (ap (option_and_then previous_key) some.1) ∙ linked.0, sym (ap (option_and_then next_key) some.1) ∙ linked.1 ∙ first_or-slice_get keys), IsLinkedAfter-from arena (Some key) keys held.1 linked.2)
 
   Held-kept : (old new : NodeArena K V P) (keys : List ℕ) → SameButLinks old new → AllByRecursion (HoldsLeaf old) keys → AllByRecursion (HoldsLeaf new) keys
   Held-kept old new keys same held = Each-weaker (HoldsLeaf old) (HoldsLeaf new) (λ key holds. HoldsLeaf-kept old new key same holds) keys held
@@ -230,68 +230,68 @@ module _ {K V : Type 0} {P : ℕ} where
   kept-leaves old new [] kept = tt
   kept-leaves old new (key ∷ keys) kept = (All-head (λ k. leaf_at new k ≡ leaf_at old k) key keys kept, kept-leaves old new keys (All-tail (λ k. leaf_at new k ≡ leaf_at old k) key keys kept))
 
-  -- a list is still spelled where none of its leaves changed
-  pub Spells-kept : (old new : NodeArena K V P) (keys : List ℕ) → AllByRecursion (λ key. leaf_at new key ≡ leaf_at old key) keys → Spells old keys → Spells new keys
-  Spells-kept old new keys same spells = record { distinct = spells.distinct; spelled = kept None keys same spells.spelled }
+  -- a list is still linked where none of its leaves changed
+  pub IsLinkedList-kept : (old new : NodeArena K V P) (keys : List ℕ) → AllByRecursion (λ key. leaf_at new key ≡ leaf_at old key) keys → IsLinkedList old keys → IsLinkedList new keys
+  IsLinkedList-kept old new keys same is_list = record { distinct = is_list.distinct; is_linked = kept None keys same is_list.is_linked }
     where
-      kept : (before : Option ℕ) (keys : List ℕ) → AllByRecursion (λ key. leaf_at new key ≡ leaf_at old key) keys → SpellsAfter old before keys → SpellsAfter new before keys
-      kept before [] same spelled = tt
-      kept before (key ∷ keys) same spelled = ((spelled.0.0, same.0 ∙ spelled.0.1, spelled.0.2, spelled.0.3), kept (Some key) keys same.1 spelled.1)
+      kept : (before : Option ℕ) (keys : List ℕ) → AllByRecursion (λ key. leaf_at new key ≡ leaf_at old key) keys → IsLinkedAfter old before keys → IsLinkedAfter new before keys
+      kept before [] same is_linked = tt
+      kept before (key ∷ keys) same is_linked = ((is_linked.0.0, same.0 ∙ is_linked.0.1, is_linked.0.2, is_linked.0.3), kept (Some key) keys same.1 is_linked.1)
 
-  pub Spells-where_kept : (old new : NodeArena K V P) (keys : List ℕ) → All (λ key. leaf_at new key ≡ leaf_at old key) keys → Spells old keys → Spells new keys
-  Spells-where_kept old new keys kept spells = Spells-kept old new keys (kept-leaves old new keys kept) spells
+  pub IsLinkedList-where_kept : (old new : NodeArena K V P) (keys : List ℕ) → All (λ key. leaf_at new key ≡ leaf_at old key) keys → IsLinkedList old keys → IsLinkedList new keys
+  IsLinkedList-where_kept old new keys kept is_list = IsLinkedList-kept old new keys (kept-leaves old new keys kept) is_list
 
   -- in particular after an allocation
-  pub Spells-allocated : (old new : NodeArena K V P) (pointer : OpaqueNodePtr K V P) (now : Held (OpaqueNodePtr K V P) (LeafNode K V P)) (keys : List ℕ) → held old pointer ≡ Nothing → Changes old new pointer now → Spells old keys → Spells new keys
-  Spells-allocated old new pointer now keys free changes spells =
-      Spells-kept old new keys
-      (Each-weaker (HoldsLeaf old) (λ key. leaf_at new key ≡ leaf_at old key) (λ key holds. held_leaf-same (leaf_at new key) (leaf_at old key) (changes.others (opaque_pointer kinds.Leaf key) (λ same. holds (ap (held old) same ∙ free)))) keys (Held-from old None keys spells.spelled))
-      spells
+  pub IsLinkedList-allocated : (old new : NodeArena K V P) (pointer : OpaqueNodePtr K V P) (now : Held (OpaqueNodePtr K V P) (LeafNode K V P)) (keys : List ℕ) → held old pointer ≡ Nothing → Changes old new pointer now → IsLinkedList old keys → IsLinkedList new keys
+  IsLinkedList-allocated old new pointer now keys free changes is_list =
+      IsLinkedList-kept old new keys
+      (Each-weaker (HoldsLeaf old) (λ key. leaf_at new key ≡ leaf_at old key) (λ key holds. held_leaf-same (leaf_at new key) (leaf_at old key) (changes.others (opaque_pointer kinds.Leaf key) (λ same. holds (ap (held old) same ∙ free)))) keys (Held-from old None keys is_list.is_linked))
+      is_list
 
   pub StandsBetween-at : (old new : NodeArena K V P) (before before' : Option ℕ) (this : ℕ) (after after' : Option ℕ) → before ≡ before' → after ≡ after' → StandsBetween old new before this after → StandsBetween old new before' this after'
   StandsBetween-at old new before before' this after after' same_before same_after placed = subst (λ a. StandsBetween old new before' this a) same_after (subst (λ b. StandsBetween old new b this after) same_before placed)
 
-  Spells-placed : (old new : NodeArena K V P) (front back : List ℕ) (this : ℕ) → StandsBetween old new (last_or None front) this (first_or back None) → SameButLinks old new → HoldsLeaf old this → AllByRecursion (λ k. k ≢ this) (front ++ back) → Spells old (front ++ back) → Spells new (front ++ this ∷ back)
-  Spells-placed old new front back this placed same holds apart spells =
+  IsLinkedList-placed : (old new : NodeArena K V P) (front back : List ℕ) (this : ℕ) → StandsBetween old new (last_or None front) this (first_or back None) → SameButLinks old new → HoldsLeaf old this → AllByRecursion (λ k. k ≢ this) (front ++ back) → IsLinkedList old (front ++ back) → IsLinkedList new (front ++ this ∷ back)
+  IsLinkedList-placed old new front back this placed same holds apart is_list =
       let parts = Each-split (λ k. k ≢ this) front back apart in
-      let held = Each-split (HoldsLeaf old) front back (Held-from old None (front ++ back) spells.spelled) in
-      let distinct = Distinct-from (front ++ back) spells.distinct in
+      let held = Each-split (HoldsLeaf old) front back (Held-from old None (front ++ back) is_list.is_linked) in
+      let distinct = Distinct-from (front ++ back) is_list.distinct in
       record {
         distinct = AreDistinct-from (front ++ this ∷ back) (Distinct-insert front back this apart distinct);
-        spelled = SpellsAfter-from new None (front ++ this ∷ back) (Held-kept old new (front ++ this ∷ back) same (Each-append (HoldsLeaf old) front (this ∷ back) held.0 (holds, held.1)))
+        is_linked = IsLinkedAfter-from new None (front ++ this ∷ back) (Held-kept old new (front ++ this ∷ back) same (Each-append (HoldsLeaf old) front (this ∷ back) held.0 (holds, held.1)))
             (Linked-exchanged (next_at old) (previous_at old) (next_at new) (previous_at new) (λ k. k ≢ this) front [] (this ∷ []) back distinct parts.0 parts.1
-            placed.before_next placed.after_previous placed.other_next placed.other_previous (placed.previous, placed.next, tt) (Linked-from old None (front ++ back) spells.spelled));
+            placed.before_next placed.after_previous placed.other_next placed.other_previous (placed.previous, placed.next, tt) (Linked-from old None (front ++ back) is_list.is_linked));
       }
 
-  pub Spells-placed_after : (old new : NodeArena K V P) (before after : List ℕ) (sibling this : ℕ) → StandsBetween old new (Some sibling) this (next_at old sibling) → SameButLinks old new → HoldsLeaf old this → IsUnlinked old this → this ≢ sibling → Spells old (before ++ sibling ∷ after) → Spells new (before ++ sibling ∷ this ∷ after)
-  Spells-placed_after old new before after sibling this placed same holds unlinked differ spells =
-      let linked = Linked-from old None (before ++ sibling ∷ after) spells.spelled in
+  pub IsLinkedList-placed_after : (old new : NodeArena K V P) (before after : List ℕ) (sibling this : ℕ) → StandsBetween old new (Some sibling) this (next_at old sibling) → SameButLinks old new → HoldsLeaf old this → IsUnlinked old this → this ≢ sibling → IsLinkedList old (before ++ sibling ∷ after) → IsLinkedList new (before ++ sibling ∷ this ∷ after)
+  IsLinkedList-placed_after old new before after sibling this placed same holds unlinked differ is_list =
+      let linked = Linked-from old None (before ++ sibling ∷ after) is_list.is_linked in
       let at_sibling = (Linked-split (next_at old) (previous_at old) None before (sibling ∷ after) None linked).1 in
       let regroup = append_assoc before (sibling ∷ []) after in
-      subst (Spells new) (append_assoc before (sibling ∷ []) (this ∷ after))
-      (Spells-placed old new (before ++ sibling ∷ []) after this
+      subst (IsLinkedList new) (append_assoc before (sibling ∷ []) (this ∷ after))
+      (IsLinkedList-placed old new (before ++ sibling ∷ []) after this
       (StandsBetween-at old new (Some sibling) (last_or None (before ++ sibling ∷ [])) this (next_at old sibling) (first_or after None) (sym (last_or-push None before sibling)) at_sibling.1 placed)
       same holds
       (subst (AllByRecursion (λ k. k ≢ this)) (sym regroup) (unlinked_is_apart (next_at old) (previous_at old) before after sibling this linked unlinked.0 unlinked.1 differ))
-      (subst (Spells old) (sym regroup) spells))
+      (subst (IsLinkedList old) (sym regroup) is_list))
 
-  pub Spells-placed_before : (old new : NodeArena K V P) (before after : List ℕ) (sibling this : ℕ) → StandsBetween old new (previous_at old sibling) this (Some sibling) → SameButLinks old new → HoldsLeaf old this → IsUnlinked old this → this ≢ sibling → Spells old (before ++ sibling ∷ after) → Spells new (before ++ this ∷ sibling ∷ after)
-  Spells-placed_before old new before after sibling this placed same holds unlinked differ spells =
-      let linked = Linked-from old None (before ++ sibling ∷ after) spells.spelled in
+  pub IsLinkedList-placed_before : (old new : NodeArena K V P) (before after : List ℕ) (sibling this : ℕ) → StandsBetween old new (previous_at old sibling) this (Some sibling) → SameButLinks old new → HoldsLeaf old this → IsUnlinked old this → this ≢ sibling → IsLinkedList old (before ++ sibling ∷ after) → IsLinkedList new (before ++ this ∷ sibling ∷ after)
+  IsLinkedList-placed_before old new before after sibling this placed same holds unlinked differ is_list =
+      let linked = Linked-from old None (before ++ sibling ∷ after) is_list.is_linked in
       let at_sibling = (Linked-split (next_at old) (previous_at old) None before (sibling ∷ after) None linked).1 in
-      Spells-placed old new before (sibling ∷ after) this
+      IsLinkedList-placed old new before (sibling ∷ after) this
       (StandsBetween-at old new (previous_at old sibling) (last_or None before) this (Some sibling) (Some sibling) at_sibling.0 refl placed)
-      same holds (unlinked_is_apart (next_at old) (previous_at old) before after sibling this linked unlinked.0 unlinked.1 differ) spells
+      same holds (unlinked_is_apart (next_at old) (previous_at old) before after sibling this linked unlinked.0 unlinked.1 differ) is_list
 
-  pub Spells-removed : (old new : NodeArena K V P) (before after : List ℕ) (this : ℕ) → Joins old new (previous_at old this) (next_at old this) → SameButLinks old new → Spells old (before ++ this ∷ after) → Spells new (before ++ after)
-  Spells-removed old new before after this joined same spells =
-      let linked = Linked-from old None (before ++ this ∷ after) spells.spelled in
+  pub IsLinkedList-removed : (old new : NodeArena K V P) (before after : List ℕ) (this : ℕ) → Joins old new (previous_at old this) (next_at old this) → SameButLinks old new → IsLinkedList old (before ++ this ∷ after) → IsLinkedList new (before ++ after)
+  IsLinkedList-removed old new before after this joined same is_list =
+      let linked = Linked-from old None (before ++ this ∷ after) is_list.is_linked in
       let at_this = (Linked-split (next_at old) (previous_at old) None before (this ∷ after) None linked).1 in
-      let held = Each-split (HoldsLeaf old) before (this ∷ after) (Held-from old None (before ++ this ∷ after) spells.spelled) in
-      let rest = Distinct-remove before after this (Distinct-from (before ++ this ∷ after) spells.distinct) in
+      let held = Each-split (HoldsLeaf old) before (this ∷ after) (Held-from old None (before ++ this ∷ after) is_list.is_linked) in
+      let rest = Distinct-remove before after this (Distinct-from (before ++ this ∷ after) is_list.distinct) in
       record {
         distinct = AreDistinct-from (before ++ after) rest.0;
-        spelled = SpellsAfter-from new None (before ++ after) (Held-kept old new (before ++ after) same (Each-append (HoldsLeaf old) before after held.0 held.1.1))
+        is_linked = IsLinkedAfter-from new None (before ++ after) (Held-kept old new (before ++ after) same (Each-append (HoldsLeaf old) before after held.0 held.1.1))
             (Linked-exchanged (next_at old) (previous_at old) (next_at new) (previous_at new) (λ k. Unit {0}) before (this ∷ []) [] after rest.0 (any before) (any after)
             (λ k named. joined.next k (at_this.0 ∙ named) ∙ at_this.1)
             (λ k named. joined.previous k (at_this.1 ∙ named) ∙ at_this.0)
@@ -304,17 +304,17 @@ module _ {K V : Type 0} {P : ℕ} where
       any [] = tt
       any (x ∷ xs) = (tt, any xs)
 
-  pub Spells-replaced : (old new : NodeArena K V P) (before after : List ℕ) (gone this : ℕ) → TakesPlace old new gone this → SameButLinks old new → HoldsLeaf old this → IsUnlinked old this → this ≢ gone → Spells old (before ++ gone ∷ after) → Spells new (before ++ this ∷ after)
-  Spells-replaced old new before after gone this placed same holds unlinked differ spells =
-      let linked = Linked-from old None (before ++ gone ∷ after) spells.spelled in
+  pub IsLinkedList-replaced : (old new : NodeArena K V P) (before after : List ℕ) (gone this : ℕ) → TakesPlace old new gone this → SameButLinks old new → HoldsLeaf old this → IsUnlinked old this → this ≢ gone → IsLinkedList old (before ++ gone ∷ after) → IsLinkedList new (before ++ this ∷ after)
+  IsLinkedList-replaced old new before after gone this placed same holds unlinked differ is_list =
+      let linked = Linked-from old None (before ++ gone ∷ after) is_list.is_linked in
       let at_gone = (Linked-split (next_at old) (previous_at old) None before (gone ∷ after) None linked).1 in
-      let held = Each-split (HoldsLeaf old) before (gone ∷ after) (Held-from old None (before ++ gone ∷ after) spells.spelled) in
-      let rest = Distinct-remove before after gone (Distinct-from (before ++ gone ∷ after) spells.distinct) in
+      let held = Each-split (HoldsLeaf old) before (gone ∷ after) (Held-from old None (before ++ gone ∷ after) is_list.is_linked) in
+      let rest = Distinct-remove before after gone (Distinct-from (before ++ gone ∷ after) is_list.distinct) in
       let not_gone = Each-split (λ k. k ≢ gone) before after rest.1 in
       let not_this = Each-split (λ k. k ≢ this) before (gone ∷ after) (unlinked_is_apart (next_at old) (previous_at old) before after gone this linked unlinked.0 unlinked.1 differ) in
       record {
         distinct = AreDistinct-from (before ++ this ∷ after) (Distinct-insert before after this (Each-append (λ k. k ≢ this) before after not_this.0 not_this.1.1) rest.0);
-        spelled = SpellsAfter-from new None (before ++ this ∷ after) (Held-kept old new (before ++ this ∷ after) same (Each-append (HoldsLeaf old) before (this ∷ after) held.0 (holds, held.1.1)))
+        is_linked = IsLinkedAfter-from new None (before ++ this ∷ after) (Held-kept old new (before ++ this ∷ after) same (Each-append (HoldsLeaf old) before (this ∷ after) held.0 (holds, held.1.1)))
             (Linked-exchanged (next_at old) (previous_at old) (next_at new) (previous_at new) (λ k. (k ≢ this) × (k ≢ gone)) before (gone ∷ []) (this ∷ []) after rest.0
             (pairs before not_this.0 not_gone.0) (pairs after not_this.1.1 not_gone.1)
             (λ k named. placed.before_next k (last_or-each (λ k. k ≢ gone) None before k (λ none. absurd (none_differs k none)) not_gone.0 named) (at_gone.0 ∙ named))

@@ -9,9 +9,9 @@ use Rattle.art_arena.specs.Links.{AreDistinct}
 use Rattle.art_arena.specs.Standing.{AllStandIn, NodeStands, StandsIn, leaf_text}
 use Rattle.art_arena.specs.Trees.{AreSound, Branches, Inner, Tree, places, IsSound}
 use Rattle.art_arena.proofs.PlaceLemmas.{all-beside, places-distinct, stands-beside}
-pub use Rattle.art_arena.proofs.KeptLemmas.{spells-beside, spells-exchanged, stands-exchanged, stands-relinked}
+pub use Rattle.art_arena.proofs.KeptLemmas.{list-beside, list-exchanged, stands-exchanged, stands-relinked}
 pub use Rattle.art_arena.proofs.KnitLemmas.{first-member, knit-member, next-member, previous-member}
-pub use Rattle.art_arena.proofs.LeafLemmas.{Spells-allocated, Spells-where_kept}
+pub use Rattle.art_arena.proofs.LeafLemmas.{IsLinkedList-allocated, IsLinkedList-where_kept}
 pub use Rattle.art_arena.proofs.TreeLemmas.{GoesOn, IsLongestCommonPrefix-node, texts-apart, texts-ascend, texts-begin, texts-go-on, texts-same, texts-some}
 
 module _ {K V : Type 0} {P : ℕ} (text : K → List ℕ) where

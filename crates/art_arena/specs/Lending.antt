@@ -31,5 +31,5 @@ LendsNode K V P N slab_of with_slab a key r =
 
 -- an arena ends with the value that the caller left behind the reference in the leaf under this
 -- slab key
-abbrev pub LendsValue : (K V P : RattleType) → MutBor (arena_row K V P).Denot → ℕ → MutBor V.Denot → Fml
-LendsValue K V P a key r = Lends (arena_row K V P) V a r (λ value. with_value_at a.now key value)
+abbrev pub LendsArenaValue : (K V P : RattleType) → MutBor (arena_row K V P).Denot → ℕ → MutBor V.Denot → Fml
+LendsArenaValue K V P a key r = Lends (arena_row K V P) V a r (λ value. with_value_at a.now key value)

@@ -1,4 +1,4 @@
--- The list of leaves that links spell.
+-- The linked list of leaves.
 use Rattle.std.specs.Prelude.{◌≡◌, ◌≢◌, ℕ, List, [], ◌∷◌, Option, Some, None, All, slice_get, slice_set}
 use Rattle.std.specs.Option.{option_and_then, option_map, option_map_or}
 use Rattle.art_header.specs.declared.node_type.NodeType.TheVariants as kinds
@@ -22,16 +22,16 @@ module _ {K V : Type 0} {P : ℕ} where
 
   -- each of these leaves names its neighbours, and the first one names this one as the one before
   -- it
-  abbrev pub SpellsAfter : NodeArena K V P → Option ℕ → List ℕ → Type 0
-  SpellsAfter arena before [] = Unit {0}
-  SpellsAfter arena before (key ∷ keys) =
+  abbrev pub IsLinkedAfter : NodeArena K V P → Option ℕ → List ℕ → Type 0
+  IsLinkedAfter arena before [] = Unit {0}
+  IsLinkedAfter arena before (key ∷ keys) =
       ((leaf : LeafNode K V P) × (leaf_at arena key ≡ Some leaf) × (previous_key leaf ≡ before) × (next_key leaf ≡ slice_get keys 0))
-      × SpellsAfter arena (Some key) keys
+      × IsLinkedAfter arena (Some key) keys
 
-  -- the links spell this list of different leaves, each named by its slab key
-  pub record Spells (arena : NodeArena K V P) (keys : List ℕ) : Type 0 where
+  -- these are different leaves, each named by its slab key, linked in this order
+  pub record IsLinkedList (arena : NodeArena K V P) (keys : List ℕ) : Type 0 where
     pub distinct : AreDistinct keys
-    pub spelled : SpellsAfter arena None keys
+    pub is_linked : IsLinkedAfter arena None keys
 
   -- the arena holds a leaf under this slab key
   abbrev pub HoldsLeaf : NodeArena K V P → ℕ → Type 0

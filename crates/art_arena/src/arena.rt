@@ -10,7 +10,7 @@ ghost use Rattle.art_nodes.specs.Leaf.{leaf_key, leaf_value, with_value};
 ghost use Rattle.art_nodes.specs.Pointers.{slab_key, node_kind, opaque_pointer};
 ghost use Rattle.art_arena.specs.Links.{HoldsLeaf, leaf_at, with_value_at};
 ghost use Rattle.art_arena.specs.Reader.{shown, shown_kind};
-ghost use Rattle.art_arena.specs.Lending.{LendsNode, LendsValue};
+ghost use Rattle.art_arena.specs.Lending.{LendsArenaValue, LendsNode};
 ghost use Rattle.art_arena.specs.Arena.{held, held_option, Nothing, HeldInner, HeldLeaf, held_header, Changes, SameNodes, capacity, leaf_count, room, SameRoom, SameOtherRoom, SameCapacity, SameOtherCapacity, slab_room, with_node};
 
 mod arena_node;
@@ -325,7 +325,7 @@ impl<K, V, const PREFIX_LEN: usize> NodeArena<K, V, PREFIX_LEN> {
     pub fn as_key_ref_value_mut(&mut self, ptr: LeafPtr<K, V, PREFIX_LEN>) -> (&K, &mut V)
         requires { HoldsLeaf self.old (slab_key ptr) }
         ensures* writes_back { sem 𝓛
-            (LendsValue K.row V.row PREFIX_LEN.row self.entry (slab_key ptr) result.1) }
+            (LendsArenaValue K.row V.row PREFIX_LEN.row self.entry (slab_key ptr) result.1) }
         ensures key { option_map leaf_key (leaf_at self.old (slab_key ptr)) ≡ Some result.0.now }
         ensures value { option_map leaf_value (leaf_at self.old (slab_key ptr))
             ≡ Some result.1.now }
@@ -361,7 +361,7 @@ impl<K, V, const PREFIX_LEN: usize> NodeArena<K, V, PREFIX_LEN> {
     pub fn as_value_mut(&mut self, ptr: LeafPtr<K, V, PREFIX_LEN>) -> &mut V
         requires { HoldsLeaf self.old (slab_key ptr) }
         ensures* writes_back { sem 𝓛
-            (LendsValue K.row V.row PREFIX_LEN.row self.entry (slab_key ptr) result) }
+            (LendsArenaValue K.row V.row PREFIX_LEN.row self.entry (slab_key ptr) result) }
         ensures value { option_map leaf_value (leaf_at self.old (slab_key ptr)) ≡ Some result.now }
         ensures changes { (leaf value : _) →
             leaf_at self.old (slab_key ptr) ≡ Some leaf →

@@ -14,7 +14,7 @@ ghost use Rattle.art_nodes.specs.Pointers.{node_kind, opaque_pointer};
 ghost use Rattle.art_nodes.specs.PrefixMatch.{HasPrefix};
 ghost use Rattle.art_nodes.specs.declared.pointers.OpaqueNodePtr.{OpaqueNodePtr};
 ghost use Rattle.art_arena.specs.Arena.{NodeArena, HeldInner, HeldLeaf, Nothing, Changes, held};
-ghost use Rattle.art_arena.specs.Links.{AreDistinct, IsKnit, SameButLinks, Spells, leaf_at, next_at, previous_at};
+ghost use Rattle.art_arena.specs.Links.{AreDistinct, IsKnit, IsLinkedList, SameButLinks, leaf_at, next_at, previous_at};
 ghost use Rattle.art_arena.specs.CommonPrefix.{IsFullMatch, IsLongestCommonPrefix, IsSharedFrom};
 ghost use Rattle.art_arena.specs.Standing.{NodeStands, StandsIn, AllStandIn, TreeAt, TreeUnder, IsTreeIn};
 ghost use Rattle.art_arena.specs.Trees.{Tree, Inner, Branches, branch_roots, leaves, texts, places, IsSound, AreSound, SameButPointers};
@@ -182,42 +182,42 @@ pub fn allocating_leaves_trees_standing<K: AsBytes, V, const PREFIX_LEN: usize>(
         AllStandIn K.text old branches → AllStandIn K.text new branches }
 {}
 
-/// Each list that links spell is still spelled after an allocation.
+/// Each linked list is still linked after an allocation.
 pub fn allocating_keeps_lists_spelled<K, V, const PREFIX_LEN: usize>()
     ensures { (old new : NodeArena K V PREFIX_LEN) (pointer : _) (now : _) (keys : List ℕ) →
         held old pointer ≡ Nothing → Changes old new pointer now →
-        Spells old keys → Spells new keys }
+        IsLinkedList old keys → IsLinkedList new keys }
 {}
 
-/// A list of leaves is still spelled where an inner node changes, and where a leaf is replaced by
+/// A list of leaves is still linked where an inner node changes, and where a leaf is replaced by
 /// one that names the same neighbours, for example one with another value.
 pub fn lists_are_spelled_where_links_are_kept<K, V, const PREFIX_LEN: usize>()
     ensures inner { (old new : NodeArena K V PREFIX_LEN) (pointer : _) (now : _) (keys : List ℕ) →
         node_kind pointer ≢ NodeType.Leaf → Changes old new pointer now →
-        Spells old keys → Spells new keys }
+        IsLinkedList old keys → IsLinkedList new keys }
     ensures leaf { (old new : NodeArena K V PREFIX_LEN) (key : ℕ) (was now : _) (keys : List ℕ) →
         leaf_at old key ≡ Some was →
         Changes old new (opaque_pointer NodeType.Leaf key) (HeldLeaf now) →
         previous_key now ≡ previous_key was → next_key now ≡ next_key was →
-        Spells old keys → Spells new keys }
+        IsLinkedList old keys → IsLinkedList new keys }
 {}
 
-/// A list of leaves is still spelled where each of its leaves is unchanged, whatever changes
+/// A list of leaves is still linked where each of its leaves is unchanged, whatever changes
 /// elsewhere, for example where a leaf is deallocated that was removed from the list.
 pub fn lists_are_spelled_where_their_leaves_are_kept<K, V, const PREFIX_LEN: usize>()
     ensures { (old new : NodeArena K V PREFIX_LEN) (keys : List ℕ) →
-        All (λ key. leaf_at new key ≡ leaf_at old key) keys → Spells old keys → Spells new keys }
+        All (λ key. leaf_at new key ≡ leaf_at old key) keys → IsLinkedList old keys → IsLinkedList new keys }
 {}
 
-/// Each leaf of a list that links spell is knit, so the calls of `LeafLinks` may be made with it,
+/// Each leaf of a linked list is knit, so the calls of `LeafLinks` may be made with it,
 /// and it names the leaves beside it in the list.
 pub fn each_leaf_of_a_list_is_knit<K, V, const PREFIX_LEN: usize>()
     ensures knit { (arena : NodeArena K V PREFIX_LEN) (before after : List ℕ) (key : ℕ) →
-        Spells arena (before ++ key ∷ after) → IsKnit arena key }
+        IsLinkedList arena (before ++ key ∷ after) → IsKnit arena key }
     ensures next { (arena : NodeArena K V PREFIX_LEN) (before after : List ℕ) (key : ℕ) →
-        Spells arena (before ++ key ∷ after) → next_at arena key ≡ slice_get after 0 }
+        IsLinkedList arena (before ++ key ∷ after) → next_at arena key ≡ slice_get after 0 }
     ensures previous { (arena : NodeArena K V PREFIX_LEN) (before after : List ℕ) (other key : ℕ) →
-        Spells arena (before ++ other ∷ key ∷ after) → previous_at arena key ≡ Some other }
+        IsLinkedList arena (before ++ other ∷ key ∷ after) → previous_at arena key ≡ Some other }
     ensures first { (arena : NodeArena K V PREFIX_LEN) (after : List ℕ) (key : ℕ) →
-        Spells arena (key ∷ after) → previous_at arena key ≡ None }
+        IsLinkedList arena (key ∷ after) → previous_at arena key ≡ None }
 {}

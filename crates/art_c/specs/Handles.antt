@@ -24,6 +24,6 @@ abbrev pub coded_behind : (R : RattleType) → Coded (Option R.Denot)
 coded_behind R = coded_option R.coded
 
 -- the entries of the map behind a handle, and none where none is
-abbrev pub entries_of : {X : Type 0} → Option (List X) → List X
-entries_of None = []
-entries_of (Some entries) = entries
+abbrev pub held_entries : {X : Type 0} → Option (List X) → List X
+held_entries None = []
+held_entries (Some entries) = entries

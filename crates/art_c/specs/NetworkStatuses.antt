@@ -1,10 +1,10 @@
 -- What calls write that find networks of which two route tables differ.
 use Rattle.std.specs.Prelude.{◌≡◌, ◌<◌, ◌≤◌, ℕ, List, Option, Some, None, length}
 use Rattle.art_routes.specs.Networks.{Block}
-use Rattle.art_c.specs.Statuses.{found_or}
 use Rattle.art_c_maps.specs.Buffers.{written}
 use Rattle.art_c_routes.specs.Addresses.{address_bytes, byte_count}
 use Rattle.art_c_routes.specs.Differing.{IsFirstDifference}
+use Rattle.art_c_maps.specs.Many.{found_or}
 
 abbrev pub ART_INSERT : ℕ
 ART_INSERT = 0

@@ -7,10 +7,11 @@ use Rattle.std.specs.Coded.{Coded, code_by, coded×, coded_option}
 use Rattle.std.specs.Global.{Global}
 use Rattle.std.specs.Option.{option_map}
 use Rattle.art_c.specs.Kinds.{AreOfKind, found_in}
-use Rattle.art_c.specs.Views.{coded_life, coded_share}
+use Rattle.art_c.specs.Views.{coded_share}
 use Rattle.art_c.specs.declared.handle.Handle.{Handle}
 use Rattle.art_c.specs.declared.held.Held.{Held}
 use Rattle.art_c.specs.declared.view.View.{View}
+use Rattle.art_c_maps.specs.Loans.{coded_life}
 
 -- a handle of one kind: an address, and the entries of the map there, if there is one
 pub record HandleOf (X : Type 0) : Type 0 where

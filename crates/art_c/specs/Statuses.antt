@@ -36,17 +36,17 @@ abbrev pub IsDone : ℕ → Type 0
 IsDone status = (status ≢ ART_NO_MEMORY) × (status ≢ ART_NO_MAP)
 
 -- such a refusal, or that of a key
-abbrev pub IsRefusal : ℕ → Type 0
-IsRefusal status = (status ≡ ART_NO_MEMORY) ⊎ (status ≡ ART_NO_MAP) ⊎ (status ≡ ART_KEY_TOO_LONG)
+abbrev pub IsRefusalStatus : ℕ → Type 0
+IsRefusalStatus status = (status ≡ ART_NO_MEMORY) ⊎ (status ≡ ART_NO_MAP) ⊎ (status ≡ ART_KEY_TOO_LONG)
 
 -- one of the refusals of a load
 abbrev pub IsLoadRefusal : ℕ → Type 0
 IsLoadRefusal status = (status ≡ ART_NO_MAP) ⊎ (status ≡ ART_NOT_EMPTY) ⊎ (status ≡ ART_NOT_ASCENDING) ⊎ (status ≡ ART_KEY_TOO_LONG) ⊎ (status ≡ ART_NO_MEMORY)
 
 -- whether there is such an entry
-abbrev pub status_of : {X : Type 0} → Option X → ℕ
-status_of None = ART_NONE
-status_of (Some x) = ART_SOME
+abbrev pub status_of_found : {X : Type 0} → Option X → ℕ
+status_of_found None = ART_NONE
+status_of_found (Some x) = ART_SOME
 
 -- the same, for a buffer of so many bytes in which its key has to fit
 abbrev pub status_in : Option (List ℕ × ℕ) → ℕ → ℕ
@@ -58,11 +58,6 @@ abbrev pub batch_status : ℕ → Option ℕ → ℕ
 batch_status count (Some unfit) = ART_SMALL_BUFFER
 batch_status zero None = ART_NONE
 batch_status (suc count) None = ART_SOME
-
--- what is found, or what was there before
-abbrev pub found_or : {X : Type 0} → Option X → X → X
-found_or None before = before
-found_or (Some x) before = x
 
 -- the length of the key that is found, or what was there before
 abbrev pub key_len_or : Option (List ℕ × ℕ) → ℕ → ℕ

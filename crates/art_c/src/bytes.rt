@@ -3,12 +3,12 @@ ghost use Rattle.std.specs.Prelude.{◌≡◌, ◌≢◌, ◌-◌, ◌<◌, ◌�
 ghost use Rattle.std.specs.List.{zip};
 ghost use Rattle.std.specs.Option.{option_map};
 ghost use Rattle.art_bytes.specs.Text.{text_order};
-ghost use Rattle.art_c.specs.Handles.{entries_of};
-ghost use Rattle.art_c.specs.Statuses.{ART_HAS_MAP, ART_KEY_TOO_LONG, ART_NONE, ART_NO_MAP, ART_NO_MEMORY, ART_SMALL_BUFFER, ART_SOME, IsDone, IsRefusal, batch_status, found_or, key_len_or, status_in, status_of, value_in};
-ghost use Rattle.art_c_maps.specs.Batch.{ends_of, joined, next_fitting, previous_fitting, unfit_len};
+ghost use Rattle.art_c.specs.Handles.{held_entries};
+ghost use Rattle.art_c.specs.Statuses.{ART_HAS_MAP, ART_KEY_TOO_LONG, ART_NONE, ART_NO_MAP, ART_NO_MEMORY, ART_SMALL_BUFFER, ART_SOME, IsDone, IsRefusalStatus, batch_status, key_len_or, status_in, status_of_found, value_in};
+ghost use Rattle.art_c_maps.specs.Batch.{ends_of, joined_keys, next_fitting, previous_fitting, unfit_len};
 ghost use Rattle.art_c_maps.specs.Buffers.{key_written};
 ghost use Rattle.art_c_maps.specs.Entries.{begun_with, entries_from, entries_to, entries_with_prefix, first_of, keys_of, last_of, put, put_each, value_of, values_of, without};
-ghost use Rattle.art_c_maps.specs.Many.{are_found, cut, found_values};
+ghost use Rattle.art_c_maps.specs.Many.{are_found, cut, found_or, found_values};
 ghost use Rattle.art_c_maps.specs.Refusals.{IsNotTooLong, IsTooLong};
 
 use crate::bytes_handle::BytesHandle;
@@ -87,7 +87,7 @@ pub extern "C" fn art_bytes_free(alloc: Global, map: &mut BytesHandle)
 /// The number of entries, 0 where there is no map.
 #[unsafe(no_mangle)]
 pub extern "C" fn art_bytes_len(map: &mut BytesView) -> usize
-    ensures len { result ≡ length (entries_of map.old.seen) }
+    ensures len { result ≡ length (held_entries map.old.seen) }
     ensures same { map.new ≡ map.old }
 {
     let Some(held) = map.lent() else {
@@ -119,16 +119,16 @@ pub extern "C" fn art_bytes_insert(
 ) -> u32
     ensures no_map { (result ≡ ART_NO_MAP) ↔ (map.old.held ≡ None) }
     ensures entries { IsDone result × (result ≢ ART_KEY_TOO_LONG) →
-        map.new.held ≡ Some (put text_order (entries_of map.old.held) key.now value) }
+        map.new.held ≡ Some (put text_order (held_entries map.old.held) key.now value) }
     ensures status { IsDone result × (result ≢ ART_KEY_TOO_LONG) →
-        result ≡ status_of (value_of text_order (entries_of map.old.held) key.now) }
+        result ≡ status_of_found (value_of text_order (held_entries map.old.held) key.now) }
     ensures before { IsDone result × (result ≢ ART_KEY_TOO_LONG) → before.new
-        ≡ found_or (value_of text_order (entries_of map.old.held) key.now) before.old }
+        ≡ found_or (value_of text_order (held_entries map.old.held) key.now) before.old }
     ensures too_long { result ≢ ART_NO_MAP →
         (result ≡ ART_KEY_TOO_LONG) ↔ IsTooLong key.now }
     ensures no_entry { result ≡ ART_NO_MEMORY →
-        value_of text_order (entries_of map.old.held) key.now ≡ None }
-    ensures refused { IsRefusal result →
+        value_of text_order (held_entries map.old.held) key.now ≡ None }
+    ensures refused { IsRefusalStatus result →
         (map.new.held ≡ map.old.held) × (before.new ≡ before.old) }
 {
     let Some(held) = map.lent_mut() else {
@@ -148,9 +148,9 @@ pub extern "C" fn art_bytes_get(map: &mut BytesView, key: &[u8], value: &mut u64
     ensures no_map { (result ≡ ART_NO_MAP) ↔ (map.old.seen ≡ None) }
     ensures never_no_memory { result ≢ ART_NO_MEMORY }
     ensures status { result ≢ ART_NO_MAP →
-        result ≡ status_of (value_of text_order (entries_of map.old.seen) key.now) }
+        result ≡ status_of_found (value_of text_order (held_entries map.old.seen) key.now) }
     ensures value { value.new
-        ≡ found_or (value_of text_order (entries_of map.old.seen) key.now) value.old }
+        ≡ found_or (value_of text_order (held_entries map.old.seen) key.now) value.old }
     ensures same { map.new ≡ map.old }
 {
     let Some(held) = map.lent() else {
@@ -168,9 +168,9 @@ pub extern "C" fn art_bytes_remove(map: &mut BytesHandle, key: &[u8], value: &mu
     ensures entries { map.new.held
         ≡ option_map (λ entries. without text_order entries key.now) map.old.held }
     ensures status { result ≢ ART_NO_MAP →
-        result ≡ status_of (value_of text_order (entries_of map.old.held) key.now) }
+        result ≡ status_of_found (value_of text_order (held_entries map.old.held) key.now) }
     ensures value { value.new
-        ≡ found_or (value_of text_order (entries_of map.old.held) key.now) value.old }
+        ≡ found_or (value_of text_order (held_entries map.old.held) key.now) value.old }
 {
     let Some(held) = map.lent_mut() else {
         return NO_MAP;
@@ -192,16 +192,16 @@ pub extern "C" fn art_bytes_next(
     ensures no_map { (result ≡ ART_NO_MAP) ↔ (map.old.seen ≡ None) }
     ensures never_no_memory { result ≢ ART_NO_MEMORY }
     ensures status { result ≢ ART_NO_MAP → result ≡ status_in
-        (first_of (entries_from text_order inclusive from.now (entries_of map.old.seen)))
+        (first_of (entries_from text_order inclusive from.now (held_entries map.old.seen)))
         (length key_out.old) }
     ensures key { key_out.new ≡ key_written
-        (first_of (entries_from text_order inclusive from.now (entries_of map.old.seen)))
+        (first_of (entries_from text_order inclusive from.now (held_entries map.old.seen)))
         key_out.old }
     ensures key_len { key_len.new ≡ key_len_or
-        (first_of (entries_from text_order inclusive from.now (entries_of map.old.seen)))
+        (first_of (entries_from text_order inclusive from.now (held_entries map.old.seen)))
         key_len.old }
     ensures value { value.new ≡ value_in
-        (first_of (entries_from text_order inclusive from.now (entries_of map.old.seen)))
+        (first_of (entries_from text_order inclusive from.now (held_entries map.old.seen)))
         (length key_out.old) value.old }
     ensures same { map.new ≡ map.old }
 {
@@ -226,16 +226,16 @@ pub extern "C" fn art_bytes_previous(
     ensures no_map { (result ≡ ART_NO_MAP) ↔ (map.old.seen ≡ None) }
     ensures never_no_memory { result ≢ ART_NO_MEMORY }
     ensures status { result ≢ ART_NO_MAP → result ≡ status_in
-        (last_of (entries_to text_order inclusive from.now (entries_of map.old.seen)))
+        (last_of (entries_to text_order inclusive from.now (held_entries map.old.seen)))
         (length key_out.old) }
     ensures key { key_out.new ≡ key_written
-        (last_of (entries_to text_order inclusive from.now (entries_of map.old.seen)))
+        (last_of (entries_to text_order inclusive from.now (held_entries map.old.seen)))
         key_out.old }
     ensures key_len { key_len.new ≡ key_len_or
-        (last_of (entries_to text_order inclusive from.now (entries_of map.old.seen)))
+        (last_of (entries_to text_order inclusive from.now (held_entries map.old.seen)))
         key_len.old }
     ensures value { value.new ≡ value_in
-        (last_of (entries_to text_order inclusive from.now (entries_of map.old.seen)))
+        (last_of (entries_to text_order inclusive from.now (held_entries map.old.seen)))
         (length key_out.old) value.old }
     ensures same { map.new ≡ map.old }
 {
@@ -262,19 +262,19 @@ pub extern "C" fn art_bytes_next_with_prefix(
     ensures never_no_memory { result ≢ ART_NO_MEMORY }
     ensures status { result ≢ ART_NO_MAP → result ≡ status_in
         (first_of (entries_from text_order inclusive from.now
-        (entries_with_prefix prefix.now (entries_of map.old.seen))))
+        (entries_with_prefix prefix.now (held_entries map.old.seen))))
         (length key_out.old) }
     ensures key { key_out.new ≡ key_written
         (first_of (entries_from text_order inclusive from.now
-        (entries_with_prefix prefix.now (entries_of map.old.seen))))
+        (entries_with_prefix prefix.now (held_entries map.old.seen))))
         key_out.old }
     ensures key_len { key_len.new ≡ key_len_or
         (first_of (entries_from text_order inclusive from.now
-        (entries_with_prefix prefix.now (entries_of map.old.seen))))
+        (entries_with_prefix prefix.now (held_entries map.old.seen))))
         key_len.old }
     ensures value { value.new ≡ value_in
         (first_of (entries_from text_order inclusive from.now
-        (entries_with_prefix prefix.now (entries_of map.old.seen))))
+        (entries_with_prefix prefix.now (held_entries map.old.seen))))
         (length key_out.old) value.old }
     ensures same { map.new ≡ map.old }
 {
@@ -305,30 +305,30 @@ pub extern "C" fn art_bytes_next_many(
     ensures status { result ≢ ART_NO_MAP → result ≡ batch_status
         (length (next_fitting
         (min (length ends.old) (length values.old)) (length keys.old)
-        prefix.now inclusive from.now (entries_of map.old.seen)))
+        prefix.now inclusive from.now (held_entries map.old.seen)))
         (unfit_len (next_fitting
         (min (length ends.old) (length values.old)) (length keys.old)
-        prefix.now inclusive from.now (entries_of map.old.seen))
+        prefix.now inclusive from.now (held_entries map.old.seen))
         (first_of (entries_from text_order inclusive from.now
-        (entries_with_prefix prefix.now (entries_of map.old.seen))))) }
+        (entries_with_prefix prefix.now (held_entries map.old.seen))))) }
     ensures count { result ≢ ART_NO_MAP → count.new ≡ length (next_fitting
         (min (length ends.old) (length values.old)) (length keys.old)
-        prefix.now inclusive from.now (entries_of map.old.seen)) }
-    ensures keys { result ≢ ART_NO_MAP → keys.new ≡ begun_with (joined (keys_of (next_fitting
+        prefix.now inclusive from.now (held_entries map.old.seen)) }
+    ensures keys { result ≢ ART_NO_MAP → keys.new ≡ begun_with (joined_keys (keys_of (next_fitting
         (min (length ends.old) (length values.old)) (length keys.old)
-        prefix.now inclusive from.now (entries_of map.old.seen)))) keys.old }
+        prefix.now inclusive from.now (held_entries map.old.seen)))) keys.old }
     ensures ends { result ≢ ART_NO_MAP → ends.new ≡ begun_with (ends_of (next_fitting
         (min (length ends.old) (length values.old)) (length keys.old)
-        prefix.now inclusive from.now (entries_of map.old.seen))) ends.old }
+        prefix.now inclusive from.now (held_entries map.old.seen))) ends.old }
     ensures values { result ≢ ART_NO_MAP → values.new ≡ begun_with (values_of (next_fitting
         (min (length ends.old) (length values.old)) (length keys.old)
-        prefix.now inclusive from.now (entries_of map.old.seen))) values.old }
+        prefix.now inclusive from.now (held_entries map.old.seen))) values.old }
     ensures key_len { result ≢ ART_NO_MAP → key_len.new ≡ found_or
         (unfit_len (next_fitting
         (min (length ends.old) (length values.old)) (length keys.old)
-        prefix.now inclusive from.now (entries_of map.old.seen))
+        prefix.now inclusive from.now (held_entries map.old.seen))
         (first_of (entries_from text_order inclusive from.now
-        (entries_with_prefix prefix.now (entries_of map.old.seen))))) key_len.old }
+        (entries_with_prefix prefix.now (held_entries map.old.seen))))) key_len.old }
     ensures unchanged { result ≡ ART_NO_MAP → (keys.new ≡ keys.old) × (ends.new ≡ ends.old)
         × (values.new ≡ values.old) × (count.new ≡ count.old) × (key_len.new ≡ key_len.old) }
     ensures same { map.new ≡ map.old }
@@ -359,30 +359,30 @@ pub extern "C" fn art_bytes_previous_many(
     ensures status { result ≢ ART_NO_MAP → result ≡ batch_status
         (length (previous_fitting
         (min (length ends.old) (length values.old)) (length keys.old)
-        prefix.now inclusive from.now (entries_of map.old.seen)))
+        prefix.now inclusive from.now (held_entries map.old.seen)))
         (unfit_len (previous_fitting
         (min (length ends.old) (length values.old)) (length keys.old)
-        prefix.now inclusive from.now (entries_of map.old.seen))
+        prefix.now inclusive from.now (held_entries map.old.seen))
         (first_of (reverse (entries_to text_order inclusive from.now
-        (entries_with_prefix prefix.now (entries_of map.old.seen)))))) }
+        (entries_with_prefix prefix.now (held_entries map.old.seen)))))) }
     ensures count { result ≢ ART_NO_MAP → count.new ≡ length (previous_fitting
         (min (length ends.old) (length values.old)) (length keys.old)
-        prefix.now inclusive from.now (entries_of map.old.seen)) }
-    ensures keys { result ≢ ART_NO_MAP → keys.new ≡ begun_with (joined (keys_of (previous_fitting
+        prefix.now inclusive from.now (held_entries map.old.seen)) }
+    ensures keys { result ≢ ART_NO_MAP → keys.new ≡ begun_with (joined_keys (keys_of (previous_fitting
         (min (length ends.old) (length values.old)) (length keys.old)
-        prefix.now inclusive from.now (entries_of map.old.seen)))) keys.old }
+        prefix.now inclusive from.now (held_entries map.old.seen)))) keys.old }
     ensures ends { result ≢ ART_NO_MAP → ends.new ≡ begun_with (ends_of (previous_fitting
         (min (length ends.old) (length values.old)) (length keys.old)
-        prefix.now inclusive from.now (entries_of map.old.seen))) ends.old }
+        prefix.now inclusive from.now (held_entries map.old.seen))) ends.old }
     ensures values { result ≢ ART_NO_MAP → values.new ≡ begun_with (values_of (previous_fitting
         (min (length ends.old) (length values.old)) (length keys.old)
-        prefix.now inclusive from.now (entries_of map.old.seen))) values.old }
+        prefix.now inclusive from.now (held_entries map.old.seen))) values.old }
     ensures key_len { result ≢ ART_NO_MAP → key_len.new ≡ found_or
         (unfit_len (previous_fitting
         (min (length ends.old) (length values.old)) (length keys.old)
-        prefix.now inclusive from.now (entries_of map.old.seen))
+        prefix.now inclusive from.now (held_entries map.old.seen))
         (first_of (reverse (entries_to text_order inclusive from.now
-        (entries_with_prefix prefix.now (entries_of map.old.seen)))))) key_len.old }
+        (entries_with_prefix prefix.now (held_entries map.old.seen)))))) key_len.old }
     ensures unchanged { result ≡ ART_NO_MAP → (keys.new ≡ keys.old) × (ends.new ≡ ends.old)
         × (values.new ≡ values.old) × (count.new ≡ count.old) × (key_len.new ≡ key_len.old) }
     ensures same { map.new ≡ map.old }
@@ -404,12 +404,12 @@ pub extern "C" fn art_bytes_first(
 ) -> u32
     ensures no_map { (result ≡ ART_NO_MAP) ↔ (map.old.seen ≡ None) }
     ensures status { result ≢ ART_NO_MAP → result
-        ≡ status_in (first_of (entries_of map.old.seen)) (length key_out.old) }
-    ensures key { key_out.new ≡ key_written (first_of (entries_of map.old.seen)) key_out.old }
+        ≡ status_in (first_of (held_entries map.old.seen)) (length key_out.old) }
+    ensures key { key_out.new ≡ key_written (first_of (held_entries map.old.seen)) key_out.old }
     ensures key_len { key_len.new
-        ≡ key_len_or (first_of (entries_of map.old.seen)) key_len.old }
+        ≡ key_len_or (first_of (held_entries map.old.seen)) key_len.old }
     ensures value { value.new
-        ≡ value_in (first_of (entries_of map.old.seen)) (length key_out.old) value.old }
+        ≡ value_in (first_of (held_entries map.old.seen)) (length key_out.old) value.old }
     ensures same { map.new ≡ map.old }
 {
     let Some(held) = map.lent() else {
@@ -430,12 +430,12 @@ pub extern "C" fn art_bytes_last(
 ) -> u32
     ensures no_map { (result ≡ ART_NO_MAP) ↔ (map.old.seen ≡ None) }
     ensures status { result ≢ ART_NO_MAP → result
-        ≡ status_in (last_of (entries_of map.old.seen)) (length key_out.old) }
-    ensures key { key_out.new ≡ key_written (last_of (entries_of map.old.seen)) key_out.old }
+        ≡ status_in (last_of (held_entries map.old.seen)) (length key_out.old) }
+    ensures key { key_out.new ≡ key_written (last_of (held_entries map.old.seen)) key_out.old }
     ensures key_len { key_len.new
-        ≡ key_len_or (last_of (entries_of map.old.seen)) key_len.old }
+        ≡ key_len_or (last_of (held_entries map.old.seen)) key_len.old }
     ensures value { value.new
-        ≡ value_in (last_of (entries_of map.old.seen)) (length key_out.old) value.old }
+        ≡ value_in (last_of (held_entries map.old.seen)) (length key_out.old) value.old }
     ensures same { map.new ≡ map.old }
 {
     let Some(held) = map.lent() else {
@@ -456,14 +456,14 @@ pub extern "C" fn art_bytes_pop_first(
 ) -> u32
     ensures no_map { (result ≡ ART_NO_MAP) ↔ (map.old.held ≡ None) }
     ensures never_no_memory { result ≢ ART_NO_MEMORY }
-    ensures removed { result ≡ ART_SOME → map.new.held ≡ Some (drop 1 (entries_of map.old.held)) }
+    ensures removed { result ≡ ART_SOME → map.new.held ≡ Some (drop 1 (held_entries map.old.held)) }
     ensures same_entries { result ≢ ART_SOME → map.new.held ≡ map.old.held }
     ensures status { result ≢ ART_NO_MAP → result
-        ≡ status_in (first_of (entries_of map.old.held)) (length key_out.old) }
-    ensures key { key_out.new ≡ key_written (first_of (entries_of map.old.held)) key_out.old }
-    ensures key_len { key_len.new ≡ key_len_or (first_of (entries_of map.old.held)) key_len.old }
+        ≡ status_in (first_of (held_entries map.old.held)) (length key_out.old) }
+    ensures key { key_out.new ≡ key_written (first_of (held_entries map.old.held)) key_out.old }
+    ensures key_len { key_len.new ≡ key_len_or (first_of (held_entries map.old.held)) key_len.old }
     ensures value { value.new
-        ≡ value_in (first_of (entries_of map.old.held)) (length key_out.old) value.old }
+        ≡ value_in (first_of (held_entries map.old.held)) (length key_out.old) value.old }
 {
     let Some(held) = map.lent_mut() else {
         return NO_MAP;
@@ -483,14 +483,14 @@ pub extern "C" fn art_bytes_pop_last(
 ) -> u32
     ensures no_map { (result ≡ ART_NO_MAP) ↔ (map.old.held ≡ None) }
     ensures never_no_memory { result ≢ ART_NO_MEMORY }
-    ensures removed { result ≡ ART_SOME → map.new.held ≡ Some (take (length (entries_of map.old.held) - 1) (entries_of map.old.held)) }
+    ensures removed { result ≡ ART_SOME → map.new.held ≡ Some (take (length (held_entries map.old.held) - 1) (held_entries map.old.held)) }
     ensures same_entries { result ≢ ART_SOME → map.new.held ≡ map.old.held }
     ensures status { result ≢ ART_NO_MAP → result
-        ≡ status_in (last_of (entries_of map.old.held)) (length key_out.old) }
-    ensures key { key_out.new ≡ key_written (last_of (entries_of map.old.held)) key_out.old }
-    ensures key_len { key_len.new ≡ key_len_or (last_of (entries_of map.old.held)) key_len.old }
+        ≡ status_in (last_of (held_entries map.old.held)) (length key_out.old) }
+    ensures key { key_out.new ≡ key_written (last_of (held_entries map.old.held)) key_out.old }
+    ensures key_len { key_len.new ≡ key_len_or (last_of (held_entries map.old.held)) key_len.old }
     ensures value { value.new
-        ≡ value_in (last_of (entries_of map.old.held)) (length key_out.old) value.old }
+        ≡ value_in (last_of (held_entries map.old.held)) (length key_out.old) value.old }
 {
     let Some(held) = map.lent_mut() else {
         return NO_MAP;
@@ -503,7 +503,7 @@ pub extern "C" fn art_bytes_pop_last(
 /// How many keys begin with these bytes, 0 where there is no map.
 #[unsafe(no_mangle)]
 pub extern "C" fn art_bytes_count_prefix(map: &mut BytesView, prefix: &[u8]) -> usize
-    ensures count { result ≡ length (entries_with_prefix prefix.now (entries_of map.old.seen)) }
+    ensures count { result ≡ length (entries_with_prefix prefix.now (held_entries map.old.seen)) }
     ensures same { map.new ≡ map.old }
 {
     let Some(held) = map.lent() else {
@@ -529,9 +529,9 @@ pub extern "C" fn art_bytes_get_many(
     ensures count { result ≢ ART_NO_MAP →
         count.new ≡ min (length ends.now) (min (length found.old) (length values.old)) }
     ensures found { result ≢ ART_NO_MAP → found.new ≡ begun_with
-        (are_found (value_of text_order (entries_of map.old.seen)) (take count.new (cut keys.now ends.now))) found.old }
+        (are_found (value_of text_order (held_entries map.old.seen)) (take count.new (cut keys.now ends.now))) found.old }
     ensures values { result ≢ ART_NO_MAP → values.new ≡ begun_with
-        (found_values (value_of text_order (entries_of map.old.seen))
+        (found_values (value_of text_order (held_entries map.old.seen))
         (take count.new (zip (cut keys.now ends.now) values.old))) values.old }
     ensures unchanged { result ≡ ART_NO_MAP →
         (found.new ≡ found.old) × (values.new ≡ values.old) × (count.new ≡ count.old) }
@@ -558,7 +558,7 @@ pub extern "C" fn art_bytes_insert_many(
 ) -> u32
     ensures no_map { (result ≡ ART_NO_MAP) ↔ (map.old.held ≡ None) }
     ensures entries { result ≢ ART_NO_MAP → map.new.held ≡ Some (put_each text_order
-        (entries_of map.old.held) (take done.new (zip (cut keys.now ends.now) values.now))) }
+        (held_entries map.old.held) (take done.new (zip (cut keys.now ends.now) values.now))) }
     ensures status { IsDone result × (result ≢ ART_KEY_TOO_LONG) → result ≡ ART_NONE }
     ensures all { result ≡ ART_NONE → done.new ≡ length (zip (cut keys.now ends.now) values.now) }
     ensures stopped { (result ≡ ART_NO_MEMORY) ⊎ (result ≡ ART_KEY_TOO_LONG) →
@@ -567,7 +567,7 @@ pub extern "C" fn art_bytes_insert_many(
         IsTooLong (get_or (cut keys.now ends.now) done.new []) }
     ensures not_too_long { result ≡ ART_NO_MEMORY →
         IsNotTooLong (get_or (cut keys.now ends.now) done.new []) }
-    ensures no_entry { result ≡ ART_NO_MEMORY → value_of text_order (entries_of map.new.held)
+    ensures no_entry { result ≡ ART_NO_MEMORY → value_of text_order (held_entries map.new.held)
         (get_or (cut keys.now ends.now) done.new []) ≡ None }
     ensures unchanged { result ≡ ART_NO_MAP →
         (map.new.held ≡ map.old.held) × (done.new ≡ done.old) }

@@ -2,7 +2,7 @@
 ghost use Rattle.std.specs.Prelude.{◌≡◌, length};
 ghost use Rattle.std.specs.Option.{option_map};
 ghost use Rattle.art_bytes.specs.Text.{text_order};
-ghost use Rattle.art_c.specs.Handles.{entries_of};
+ghost use Rattle.art_c.specs.Handles.{held_entries};
 ghost use Rattle.art_c_maps.specs.Entries.{entries_with_prefix, next_entries};
 ghost use Rattle.art_c_maps.specs.Lent.{LendsNext};
 
@@ -64,7 +64,7 @@ impl BytesView {
         out: &mut [BytesEntry],
     ) -> usize
         ensures { LendsNext self.old.life (next_entries text_order (length out.old) inclusive from.now
-            (entries_with_prefix prefix.now (entries_of self.old.seen))) out.old out.new result
+            (entries_with_prefix prefix.now (held_entries self.old.seen))) out.old out.new result
             × (self.new ≡ self.old) }
     {
         self.inner.lend_next(prefix, from, inclusive, out)

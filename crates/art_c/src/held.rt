@@ -3,7 +3,7 @@ ghost use Rattle.std.specs.Prelude.{◌≡◌, length};
 ghost use Rattle.std.specs.Option.{option_map};
 ghost use Rattle.std.specs.Ordering.{nat_cmp};
 ghost use Rattle.art_bytes.specs.Text.{text_order};
-ghost use Rattle.art_c.specs.Handles.{entries_of};
+ghost use Rattle.art_c.specs.Handles.{held_entries};
 ghost use Rattle.art_c_maps.specs.Entries.{entries_from, entries_with_prefix, next_entries};
 ghost use Rattle.art_c_maps.specs.Lent.{LendsNext, LendsRun};
 
@@ -102,7 +102,7 @@ impl Held {
         inclusive: bool,
     ) -> (NumberRun, usize)
         ensures { LendsRun loan.entry.life
-            (entries_from nat_cmp inclusive from (entries_of (numbers_of self.now))) result.0 result.1 }
+            (entries_from nat_cmp inclusive from (held_entries (numbers_of self.now))) result.0 result.1 }
     {
         match self.numbers() {
             Some(map) => map.lend_run(loan, from, inclusive),
@@ -121,7 +121,7 @@ impl Held {
         out: &mut [BytesEntry],
     ) -> usize
         ensures { LendsNext loan.entry.life (next_entries text_order (length out.old) inclusive from.now
-            (entries_with_prefix prefix.now (entries_of (bytes_of self.now)))) out.old out.new result }
+            (entries_with_prefix prefix.now (held_entries (bytes_of self.now)))) out.old out.new result }
     {
         match self.bytes() {
             Some(map) => map.lend_next(loan, prefix, from, inclusive, out),

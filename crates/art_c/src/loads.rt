@@ -3,7 +3,7 @@ ghost use Rattle.std.specs.Prelude.{◌≡◌, ◌≢◌, ◌⊎◌, ◌↔◌, 
 ghost use Rattle.std.specs.List.{zip};
 ghost use Rattle.std.specs.Ordering.{nat_cmp};
 ghost use Rattle.art_bytes.specs.Text.{text_order};
-ghost use Rattle.art_c.specs.Handles.{entries_of};
+ghost use Rattle.art_c.specs.Handles.{held_entries};
 ghost use Rattle.art_c.specs.Statuses.{ART_KEY_TOO_LONG, ART_NONE, ART_NOT_ASCENDING, ART_NOT_EMPTY, ART_NO_MAP, ART_NO_MEMORY, IsLoadRefusal};
 ghost use Rattle.art_c_maps.specs.Entries.{keys_of};
 ghost use Rattle.art_c_maps.specs.Loads.{SomeTooLong, TakesBytes, TakesNumbers, ascend};
@@ -26,13 +26,13 @@ pub extern "C" fn art_bytes_load(
     values: &[u64],
 ) -> u32
     ensures no_map { (result ≡ ART_NO_MAP) ↔ (map.old.held ≡ None) }
-    ensures not_empty { (result ≡ ART_NOT_EMPTY) ↔ (entries_of map.old.held ≢ []) }
+    ensures not_empty { (result ≡ ART_NOT_EMPTY) ↔ (held_entries map.old.held ≢ []) }
     ensures not_ascending { (result ≡ ART_NOT_ASCENDING) ↔ ((map.old.held ≡ Some [])
         × (ascend text_order (keys_of (zip (cut keys.now ends.now) values.now)) ≡ false)) }
     ensures too_long { (result ≡ ART_KEY_TOO_LONG) ↔ ((map.old.held ≡ Some [])
         × (ascend text_order (keys_of (zip (cut keys.now ends.now) values.now)) ≡ true)
         × SomeTooLong (keys_of (zip (cut keys.now ends.now) values.now))) }
-    ensures no_memory { result ≡ ART_NO_MEMORY → TakesBytes (entries_of map.old.held)
+    ensures no_memory { result ≡ ART_NO_MEMORY → TakesBytes (held_entries map.old.held)
         (keys_of (zip (cut keys.now ends.now) values.now)) }
     ensures entries { result ≡ ART_NONE → map.new.held ≡ Some (zip (cut keys.now ends.now) values.now) }
     ensures same_entries { IsLoadRefusal result → map.new.held ≡ map.old.held }
@@ -61,11 +61,11 @@ pub extern "C" fn art_u64_load(
     values: &[u64],
 ) -> u32
     ensures no_map { (result ≡ ART_NO_MAP) ↔ (map.old.held ≡ None) }
-    ensures not_empty { (result ≡ ART_NOT_EMPTY) ↔ (entries_of map.old.held ≢ []) }
+    ensures not_empty { (result ≡ ART_NOT_EMPTY) ↔ (held_entries map.old.held ≢ []) }
     ensures not_ascending { (result ≡ ART_NOT_ASCENDING) ↔ ((map.old.held ≡ Some [])
         × (ascend nat_cmp (keys_of (zip keys.now values.now)) ≡ false)) }
     ensures no_memory { result ≡ ART_NO_MEMORY →
-        TakesNumbers (entries_of map.old.held) (keys_of (zip keys.now values.now)) }
+        TakesNumbers (held_entries map.old.held) (keys_of (zip keys.now values.now)) }
     ensures never_too_long { result ≢ ART_KEY_TOO_LONG }
     ensures entries { result ≡ ART_NONE → map.new.held ≡ Some (zip keys.now values.now) }
     ensures same_entries { IsLoadRefusal result → map.new.held ≡ map.old.held }

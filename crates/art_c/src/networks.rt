@@ -1,13 +1,14 @@
 //! The exports that find networks: those that no route overlaps, and those of which two tables differ.
 ghost use Rattle.std.specs.Prelude.{◌≡◌, ◌≢◌, ◌↔◌, ◌⊎◌, ◌/◌, ◌&&◌, ℕ, false, List, Option, None, length as list_length, take};
 ghost use Rattle.art_routes.specs.Networks.{Block};
-ghost use Rattle.art_c.specs.Handles.{entries_of};
+ghost use Rattle.art_c.specs.Handles.{held_entries};
 ghost use Rattle.art_c.specs.NetworkStatuses.{IsDifferenceWritten, IsTooLong, change_of};
-ghost use Rattle.art_c.specs.Statuses.{ART_BAD_NETWORK, ART_NONE, ART_NO_MAP, ART_SMALL_BUFFER, ART_SOME, found_or};
+ghost use Rattle.art_c.specs.Statuses.{ART_BAD_NETWORK, ART_NONE, ART_NO_MAP, ART_SMALL_BUFFER, ART_SOME};
 ghost use Rattle.art_c_maps.specs.Entries.{begun_with};
 ghost use Rattle.art_c_routes.specs.Addresses.{is_network, network_in};
-ghost use Rattle.art_c_routes.specs.Available.{AreAvailable, addresses_of, is_place};
+ghost use Rattle.art_c_routes.specs.Available.{AreAvailable, is_place, joined_addresses};
 ghost use Rattle.art_c_routes.specs.Found.{routes_from};
+ghost use Rattle.art_c_maps.specs.Many.{found_or};
 
 use crate::routes_view::RoutesView;
 use crate::statuses::{BAD_NETWORK, INSERT, NO_MAP, NONE, REMOVE, REPLACE, SMALL_BUFFER, SOME};
@@ -31,10 +32,10 @@ pub extern "C" fn art_routes_available_many(
         ↔ ((is_network address.now length && is_place (network_in address.now length) part_length after.now) ≡ false) }
     ensures status { (result ≢ ART_NO_MAP) × (result ≢ ART_BAD_NETWORK) → result ≡ ART_NONE }
     ensures written { result ≡ ART_NONE → (free : List Block)
-        × AreAvailable (entries_of table.old.seen) (network_in address.now length) part_length after.now free
+        × AreAvailable (held_entries table.old.seen) (network_in address.now length) part_length after.now free
         × (count.new ≡ list_length (take (list_length addresses.old / list_length address.now) free))
         × (addresses.new ≡ begun_with
-        (addresses_of (take (list_length addresses.old / list_length address.now) free)) addresses.old) }
+        (joined_addresses (take (list_length addresses.old / list_length address.now) free)) addresses.old) }
     ensures refused { (result ≡ ART_NO_MAP) ⊎ (result ≡ ART_BAD_NETWORK) →
         (addresses.new ≡ addresses.old) × (count.new ≡ count.old) }
     ensures same { table.new ≡ table.old }
@@ -96,15 +97,15 @@ pub extern "C" fn art_routes_next_difference(
         (result ≡ ART_BAD_NETWORK) ↔ (is_network from.now from_length ≡ false) }
     ensures status { (result ≢ ART_NO_MAP) × (result ≢ ART_BAD_NETWORK) →
         (result ≡ ART_NONE) ⊎ (result ≡ ART_SOME) ⊎ (result ≡ ART_SMALL_BUFFER) }
-    ensures none { result ≡ ART_NONE → routes_from inclusive (network_in from.now from_length) (entries_of table.old.seen)
-        ≡ routes_from inclusive (network_in from.now from_length) (entries_of new_table.old.seen) }
+    ensures none { result ≡ ART_NONE → routes_from inclusive (network_in from.now from_length) (held_entries table.old.seen)
+        ≡ routes_from inclusive (network_in from.now from_length) (held_entries new_table.old.seen) }
     ensures found { result ≡ ART_SOME → IsDifferenceWritten
-        (routes_from inclusive (network_in from.now from_length) (entries_of table.old.seen))
-        (routes_from inclusive (network_in from.now from_length) (entries_of new_table.old.seen))
+        (routes_from inclusive (network_in from.now from_length) (held_entries table.old.seen))
+        (routes_from inclusive (network_in from.now from_length) (held_entries new_table.old.seen))
         address_out.old before.old after.old address_out.new width.new length.new change.new before.new after.new }
     ensures too_long { result ≡ ART_SMALL_BUFFER → IsTooLong
-        (routes_from inclusive (network_in from.now from_length) (entries_of table.old.seen))
-        (routes_from inclusive (network_in from.now from_length) (entries_of new_table.old.seen))
+        (routes_from inclusive (network_in from.now from_length) (held_entries table.old.seen))
+        (routes_from inclusive (network_in from.now from_length) (held_entries new_table.old.seen))
         address_out.old address_out.new width.new }
     ensures unchanged { result ≢ ART_SOME → (length.new ≡ length.old) × (change.new ≡ change.old)
         × (before.new ≡ before.old) × (after.new ≡ after.old) }

@@ -2,7 +2,7 @@
 ghost use Rattle.std.specs.Prelude.{◌≡◌};
 ghost use Rattle.std.specs.Option.{option_map};
 ghost use Rattle.std.specs.Ordering.{nat_cmp};
-ghost use Rattle.art_c.specs.Handles.{entries_of};
+ghost use Rattle.art_c.specs.Handles.{held_entries};
 ghost use Rattle.art_c_maps.specs.Entries.{entries_from};
 ghost use Rattle.art_c_maps.specs.Lent.{LendsRun};
 
@@ -56,7 +56,7 @@ impl NumberView {
 
     /// Lends the entries at a key or after it, to the end of their page, for as long as C lends the map.
     pub(crate) fn lend_run(&mut self, from: u64, inclusive: bool) -> (NumberRun, usize)
-        ensures { LendsRun self.old.life (entries_from nat_cmp inclusive from (entries_of self.old.seen))
+        ensures { LendsRun self.old.life (entries_from nat_cmp inclusive from (held_entries self.old.seen))
             result.0 result.1 × (self.new ≡ self.old) }
     {
         self.inner.lend_run(from, inclusive)

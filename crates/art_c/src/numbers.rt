@@ -3,10 +3,10 @@ ghost use Rattle.std.specs.Prelude.{◌≡◌, ◌≢◌, ◌-◌, ◌<◌, ◌�
 ghost use Rattle.std.specs.List.{zip};
 ghost use Rattle.std.specs.Option.{option_map};
 ghost use Rattle.std.specs.Ordering.{nat_cmp};
-ghost use Rattle.art_c.specs.Handles.{entries_of};
-ghost use Rattle.art_c.specs.Statuses.{ART_HAS_MAP, ART_NONE, ART_NO_MAP, ART_NO_MEMORY, IsDone, IsRefusal, found_or, number_or, status_of, value_or};
+ghost use Rattle.art_c.specs.Handles.{held_entries};
+ghost use Rattle.art_c.specs.Statuses.{ART_HAS_MAP, ART_NONE, ART_NO_MAP, ART_NO_MEMORY, IsDone, IsRefusalStatus, number_or, status_of_found, value_or};
 ghost use Rattle.art_c_maps.specs.Entries.{begun_with, entries_from, entries_to, first_of, keys_of, last_of, next_entries, previous_entries, put, put_each, value_of, values_of, without};
-ghost use Rattle.art_c_maps.specs.Many.{are_found, found_values};
+ghost use Rattle.art_c_maps.specs.Many.{are_found, found_or, found_values};
 
 use crate::number_handle::NumberHandle;
 use crate::number_view::NumberView;
@@ -16,7 +16,7 @@ use std::alloc::Global;
 
 // The status of a call that finds a value, which is written out.
 pub(crate) fn value_status(found: Option<u64>, value: &mut u64) -> u32
-    ensures status { result ≡ status_of found }
+    ensures status { result ≡ status_of_found found }
     ensures never_no_memory { result ≢ ART_NO_MEMORY }
     ensures value { value.new ≡ found_or found value.old }
 {
@@ -31,7 +31,7 @@ pub(crate) fn value_status(found: Option<u64>, value: &mut u64) -> u32
 
 // The status of a call that finds an entry, which is written out.
 fn entry_status(found: Option<(u64, u64)>, key: &mut u64, value: &mut u64) -> u32
-    ensures status { result ≡ status_of found }
+    ensures status { result ≡ status_of_found found }
     ensures never_no_memory { result ≢ ART_NO_MEMORY }
     ensures key { key.new ≡ number_or found key.old }
     ensures value { value.new ≡ value_or found value.old }
@@ -75,7 +75,7 @@ pub extern "C" fn art_u64_free(alloc: Global, map: &mut NumberHandle)
 /// The number of entries, 0 where there is no map.
 #[unsafe(no_mangle)]
 pub extern "C" fn art_u64_len(map: &mut NumberView) -> usize
-    ensures len { result ≡ length (entries_of map.old.seen) }
+    ensures len { result ≡ length (held_entries map.old.seen) }
     ensures same { map.new ≡ map.old }
 {
     let Some(held) = map.lent() else {
@@ -106,13 +106,13 @@ pub extern "C" fn art_u64_insert(
 ) -> u32
     ensures no_map { (result ≡ ART_NO_MAP) ↔ (map.old.held ≡ None) }
     ensures entries { IsDone result →
-        map.new.held ≡ Some (put nat_cmp (entries_of map.old.held) key value) }
+        map.new.held ≡ Some (put nat_cmp (held_entries map.old.held) key value) }
     ensures status { IsDone result →
-        result ≡ status_of (value_of nat_cmp (entries_of map.old.held) key) }
+        result ≡ status_of_found (value_of nat_cmp (held_entries map.old.held) key) }
     ensures before { IsDone result →
-        before.new ≡ found_or (value_of nat_cmp (entries_of map.old.held) key) before.old }
-    ensures no_entry { result ≡ ART_NO_MEMORY → value_of nat_cmp (entries_of map.old.held) key ≡ None }
-    ensures refused { IsRefusal result →
+        before.new ≡ found_or (value_of nat_cmp (held_entries map.old.held) key) before.old }
+    ensures no_entry { result ≡ ART_NO_MEMORY → value_of nat_cmp (held_entries map.old.held) key ≡ None }
+    ensures refused { IsRefusalStatus result →
         (map.new.held ≡ map.old.held) × (before.new ≡ before.old) }
 {
     let Some(held) = map.lent_mut() else {
@@ -130,9 +130,9 @@ pub extern "C" fn art_u64_insert(
 pub extern "C" fn art_u64_get(map: &mut NumberView, key: u64, value: &mut u64) -> u32
     ensures no_map { (result ≡ ART_NO_MAP) ↔ (map.old.seen ≡ None) }
     ensures status { result ≢ ART_NO_MAP →
-        result ≡ status_of (value_of nat_cmp (entries_of map.old.seen) key) }
+        result ≡ status_of_found (value_of nat_cmp (held_entries map.old.seen) key) }
     ensures value { value.new
-        ≡ found_or (value_of nat_cmp (entries_of map.old.seen) key) value.old }
+        ≡ found_or (value_of nat_cmp (held_entries map.old.seen) key) value.old }
     ensures same { map.new ≡ map.old }
 {
     let Some(held) = map.lent() else {
@@ -149,8 +149,8 @@ pub extern "C" fn art_u64_remove(map: &mut NumberHandle, key: u64, value: &mut u
     ensures never_no_memory { result ≢ ART_NO_MEMORY }
     ensures entries { map.new.held ≡ option_map (λ entries. without nat_cmp entries key) map.old.held }
     ensures status { result ≢ ART_NO_MAP →
-        result ≡ status_of (value_of nat_cmp (entries_of map.old.held) key) }
-    ensures value { value.new ≡ found_or (value_of nat_cmp (entries_of map.old.held) key) value.old }
+        result ≡ status_of_found (value_of nat_cmp (held_entries map.old.held) key) }
+    ensures value { value.new ≡ found_or (value_of nat_cmp (held_entries map.old.held) key) value.old }
 {
     let Some(held) = map.lent_mut() else {
         return NO_MAP;
@@ -170,11 +170,11 @@ pub extern "C" fn art_u64_next(
 ) -> u32
     ensures no_map { (result ≡ ART_NO_MAP) ↔ (map.old.seen ≡ None) }
     ensures status { result ≢ ART_NO_MAP → result
-        ≡ status_of (first_of (entries_from nat_cmp inclusive from (entries_of map.old.seen))) }
+        ≡ status_of_found (first_of (entries_from nat_cmp inclusive from (held_entries map.old.seen))) }
     ensures key { key.new ≡ number_or
-        (first_of (entries_from nat_cmp inclusive from (entries_of map.old.seen))) key.old }
+        (first_of (entries_from nat_cmp inclusive from (held_entries map.old.seen))) key.old }
     ensures value { value.new ≡ value_or
-        (first_of (entries_from nat_cmp inclusive from (entries_of map.old.seen))) value.old }
+        (first_of (entries_from nat_cmp inclusive from (held_entries map.old.seen))) value.old }
     ensures same { map.new ≡ map.old }
 {
     let Some(held) = map.lent() else {
@@ -195,11 +195,11 @@ pub extern "C" fn art_u64_previous(
 ) -> u32
     ensures no_map { (result ≡ ART_NO_MAP) ↔ (map.old.seen ≡ None) }
     ensures status { result ≢ ART_NO_MAP → result
-        ≡ status_of (last_of (entries_to nat_cmp inclusive from (entries_of map.old.seen))) }
+        ≡ status_of_found (last_of (entries_to nat_cmp inclusive from (held_entries map.old.seen))) }
     ensures key { key.new ≡ number_or
-        (last_of (entries_to nat_cmp inclusive from (entries_of map.old.seen))) key.old }
+        (last_of (entries_to nat_cmp inclusive from (held_entries map.old.seen))) key.old }
     ensures value { value.new ≡ value_or
-        (last_of (entries_to nat_cmp inclusive from (entries_of map.old.seen))) value.old }
+        (last_of (entries_to nat_cmp inclusive from (held_entries map.old.seen))) value.old }
     ensures same { map.new ≡ map.old }
 {
     let Some(held) = map.lent() else {
@@ -213,9 +213,9 @@ pub extern "C" fn art_u64_previous(
 #[unsafe(no_mangle)]
 pub extern "C" fn art_u64_first(map: &mut NumberView, key: &mut u64, value: &mut u64) -> u32
     ensures no_map { (result ≡ ART_NO_MAP) ↔ (map.old.seen ≡ None) }
-    ensures status { result ≢ ART_NO_MAP → result ≡ status_of (first_of (entries_of map.old.seen)) }
-    ensures key { key.new ≡ number_or (first_of (entries_of map.old.seen)) key.old }
-    ensures value { value.new ≡ value_or (first_of (entries_of map.old.seen)) value.old }
+    ensures status { result ≢ ART_NO_MAP → result ≡ status_of_found (first_of (held_entries map.old.seen)) }
+    ensures key { key.new ≡ number_or (first_of (held_entries map.old.seen)) key.old }
+    ensures value { value.new ≡ value_or (first_of (held_entries map.old.seen)) value.old }
     ensures same { map.new ≡ map.old }
 {
     let Some(held) = map.lent() else {
@@ -229,9 +229,9 @@ pub extern "C" fn art_u64_first(map: &mut NumberView, key: &mut u64, value: &mut
 #[unsafe(no_mangle)]
 pub extern "C" fn art_u64_last(map: &mut NumberView, key: &mut u64, value: &mut u64) -> u32
     ensures no_map { (result ≡ ART_NO_MAP) ↔ (map.old.seen ≡ None) }
-    ensures status { result ≢ ART_NO_MAP → result ≡ status_of (last_of (entries_of map.old.seen)) }
-    ensures key { key.new ≡ number_or (last_of (entries_of map.old.seen)) key.old }
-    ensures value { value.new ≡ value_or (last_of (entries_of map.old.seen)) value.old }
+    ensures status { result ≢ ART_NO_MAP → result ≡ status_of_found (last_of (held_entries map.old.seen)) }
+    ensures key { key.new ≡ number_or (last_of (held_entries map.old.seen)) key.old }
+    ensures value { value.new ≡ value_or (last_of (held_entries map.old.seen)) value.old }
     ensures same { map.new ≡ map.old }
 {
     let Some(held) = map.lent() else {
@@ -247,9 +247,9 @@ pub extern "C" fn art_u64_pop_first(map: &mut NumberHandle, key: &mut u64, value
     ensures no_map { (result ≡ ART_NO_MAP) ↔ (map.old.held ≡ None) }
     ensures never_no_memory { result ≢ ART_NO_MEMORY }
     ensures entries { map.new.held ≡ option_map (λ entries. drop 1 entries) map.old.held }
-    ensures status { result ≢ ART_NO_MAP → result ≡ status_of (first_of (entries_of map.old.held)) }
-    ensures key { key.new ≡ number_or (first_of (entries_of map.old.held)) key.old }
-    ensures value { value.new ≡ value_or (first_of (entries_of map.old.held)) value.old }
+    ensures status { result ≢ ART_NO_MAP → result ≡ status_of_found (first_of (held_entries map.old.held)) }
+    ensures key { key.new ≡ number_or (first_of (held_entries map.old.held)) key.old }
+    ensures value { value.new ≡ value_or (first_of (held_entries map.old.held)) value.old }
 {
     let Some(held) = map.lent_mut() else {
         return NO_MAP;
@@ -264,9 +264,9 @@ pub extern "C" fn art_u64_pop_last(map: &mut NumberHandle, key: &mut u64, value:
     ensures no_map { (result ≡ ART_NO_MAP) ↔ (map.old.held ≡ None) }
     ensures never_no_memory { result ≢ ART_NO_MEMORY }
     ensures entries { map.new.held ≡ option_map (λ entries. take (length entries - 1) entries) map.old.held }
-    ensures status { result ≢ ART_NO_MAP → result ≡ status_of (last_of (entries_of map.old.held)) }
-    ensures key { key.new ≡ number_or (last_of (entries_of map.old.held)) key.old }
-    ensures value { value.new ≡ value_or (last_of (entries_of map.old.held)) value.old }
+    ensures status { result ≢ ART_NO_MAP → result ≡ status_of_found (last_of (held_entries map.old.held)) }
+    ensures key { key.new ≡ number_or (last_of (held_entries map.old.held)) key.old }
+    ensures value { value.new ≡ value_or (last_of (held_entries map.old.held)) value.old }
 {
     let Some(held) = map.lent_mut() else {
         return NO_MAP;
@@ -286,11 +286,11 @@ pub extern "C" fn art_u64_next_many(
     values: &mut [u64],
 ) -> usize
     ensures count { result ≡ length (next_entries nat_cmp
-        (min (length keys.old) (length values.old)) inclusive from (entries_of map.old.seen)) }
+        (min (length keys.old) (length values.old)) inclusive from (held_entries map.old.seen)) }
     ensures keys { keys.new ≡ begun_with (keys_of (next_entries nat_cmp
-        (min (length keys.old) (length values.old)) inclusive from (entries_of map.old.seen))) keys.old }
+        (min (length keys.old) (length values.old)) inclusive from (held_entries map.old.seen))) keys.old }
     ensures values { values.new ≡ begun_with (values_of (next_entries nat_cmp
-        (min (length keys.old) (length values.old)) inclusive from (entries_of map.old.seen))) values.old }
+        (min (length keys.old) (length values.old)) inclusive from (held_entries map.old.seen))) values.old }
     ensures same { map.new ≡ map.old }
 {
     let Some(held) = map.lent() else {
@@ -311,11 +311,11 @@ pub extern "C" fn art_u64_previous_many(
     values: &mut [u64],
 ) -> usize
     ensures count { result ≡ length (previous_entries nat_cmp
-        (min (length keys.old) (length values.old)) inclusive from (entries_of map.old.seen)) }
+        (min (length keys.old) (length values.old)) inclusive from (held_entries map.old.seen)) }
     ensures keys { keys.new ≡ begun_with (keys_of (previous_entries nat_cmp
-        (min (length keys.old) (length values.old)) inclusive from (entries_of map.old.seen))) keys.old }
+        (min (length keys.old) (length values.old)) inclusive from (held_entries map.old.seen))) keys.old }
     ensures values { values.new ≡ begun_with (values_of (previous_entries nat_cmp
-        (min (length keys.old) (length values.old)) inclusive from (entries_of map.old.seen))) values.old }
+        (min (length keys.old) (length values.old)) inclusive from (held_entries map.old.seen))) values.old }
     ensures same { map.new ≡ map.old }
 {
     let Some(held) = map.lent() else {
@@ -337,9 +337,9 @@ pub extern "C" fn art_u64_get_many(
     ensures no_map { map.old.seen ≡ None → result ≡ 0 }
     ensures count { IsSome map.old.seen →
         result ≡ min (length keys.now) (min (length found.old) (length values.old)) }
-    ensures found { found.new ≡ begun_with (are_found (value_of nat_cmp (entries_of map.old.seen))
+    ensures found { found.new ≡ begun_with (are_found (value_of nat_cmp (held_entries map.old.seen))
         (take result keys.now)) found.old }
-    ensures values { values.new ≡ begun_with (found_values (value_of nat_cmp (entries_of map.old.seen))
+    ensures values { values.new ≡ begun_with (found_values (value_of nat_cmp (held_entries map.old.seen))
         (take result (zip keys.now values.old))) values.old }
     ensures same { map.new ≡ map.old }
 {
@@ -361,12 +361,12 @@ pub extern "C" fn art_u64_insert_many(
 ) -> u32
     ensures no_map { (result ≡ ART_NO_MAP) ↔ (map.old.held ≡ None) }
     ensures entries { result ≢ ART_NO_MAP → map.new.held ≡ Some (put_each nat_cmp
-        (entries_of map.old.held) (take done.new (zip keys.now values.now))) }
+        (held_entries map.old.held) (take done.new (zip keys.now values.now))) }
     ensures status { IsDone result → result ≡ ART_NONE }
     ensures all { IsDone result → done.new ≡ length (zip keys.now values.now) }
     ensures stopped { result ≡ ART_NO_MEMORY → done.new < length (zip keys.now values.now) }
     ensures no_entry { result ≡ ART_NO_MEMORY →
-        value_of nat_cmp (entries_of map.new.held) (get_or keys.now done.new 0) ≡ None }
+        value_of nat_cmp (held_entries map.new.held) (get_or keys.now done.new 0) ≡ None }
     ensures unchanged { result ≡ ART_NO_MAP →
         (map.new.held ≡ map.old.held) × (done.new ≡ done.old) }
 {

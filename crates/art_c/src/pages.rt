@@ -3,7 +3,7 @@ ghost use Rattle.std.specs.Prelude.{◌≡◌, [], drop, length, take};
 ghost use Rattle.std.specs.List.{AllZip};
 ghost use Rattle.std.specs.Ordering.{nat_cmp};
 ghost use Rattle.art_bytes.specs.Text.{text_order};
-ghost use Rattle.art_c.specs.Handles.{entries_of};
+ghost use Rattle.art_c.specs.Handles.{held_entries};
 ghost use Rattle.art_c_maps.specs.Entries.{entries_from, entries_with_prefix, next_entries};
 ghost use Rattle.art_c_maps.specs.Lent.{IsLent};
 
@@ -22,8 +22,8 @@ pub extern "C" fn art_u64_page(
 ) -> usize
     ensures count { result ≡ length entries.new.entries }
     ensures first { entries.new.entries
-        ≡ take result (entries_from nat_cmp inclusive from (entries_of map.old.seen)) }
-    ensures none { result ≡ 0 → entries_from nat_cmp inclusive from (entries_of map.old.seen) ≡ [] }
+        ≡ take result (entries_from nat_cmp inclusive from (held_entries map.old.seen)) }
+    ensures none { result ≡ 0 → entries_from nat_cmp inclusive from (held_entries map.old.seen) ≡ [] }
     ensures lent { entries.new.life ≡ map.old.life }
     ensures same { map.new ≡ map.old }
 {
@@ -44,9 +44,9 @@ pub extern "C" fn art_bytes_page(
     entries: &mut [BytesEntry],
 ) -> usize
     ensures count { result ≡ length (next_entries text_order (length entries.old) inclusive from.now
-        (entries_with_prefix prefix.now (entries_of map.old.seen))) }
+        (entries_with_prefix prefix.now (held_entries map.old.seen))) }
     ensures lent { AllZip (IsLent map.old.life) (next_entries text_order (length entries.old) inclusive from.now
-        (entries_with_prefix prefix.now (entries_of map.old.seen))) (take result entries.new) }
+        (entries_with_prefix prefix.now (held_entries map.old.seen))) (take result entries.new) }
     ensures others { drop result entries.new ≡ drop result entries.old }
     ensures same { map.new ≡ map.old }
 {

@@ -5,14 +5,15 @@ ghost use Rattle.art_routes.specs.declared.address.Address.{Address};
 ghost use Rattle.art_routes.specs.Aggregates.{IsAggregated, MatchAlike};
 ghost use Rattle.art_routes.specs.Networks.{network_around};
 ghost use Rattle.art_routes.specs.Removing.{without_covered};
-ghost use Rattle.art_routes.specs.Tables.{IsLongest, IsParent, NoneAround, NoneContains, covered, covering, put_route, value_of, without_route};
-ghost use Rattle.art_c.specs.Handles.{entries_of};
+ghost use Rattle.art_routes.specs.Tables.{IsLongest, IsParent, NoneAround, NoneContains, covered, covering, put_route, route_value, without_route};
+ghost use Rattle.art_c.specs.Handles.{held_entries};
 ghost use Rattle.art_c.specs.RouteStatuses.{IsRouted, IsUnrouted, length_in, route_status, route_value_in, width_or};
-ghost use Rattle.art_c.specs.Statuses.{ART_BAD_NETWORK, ART_HAS_MAP, ART_NONE, ART_NO_MAP, ART_NO_MEMORY, ART_SMALL_BUFFER, ART_SOME, IsDone, found_or, status_of};
+ghost use Rattle.art_c.specs.Statuses.{ART_BAD_NETWORK, ART_HAS_MAP, ART_NONE, ART_NO_MAP, ART_NO_MEMORY, ART_SMALL_BUFFER, ART_SOME, IsDone, status_of_found};
 ghost use Rattle.art_c_maps.specs.Entries.{begun_with, first_of, last_of, values_of};
 ghost use Rattle.art_c_routes.specs.Addresses.{address_in, is_address, is_network, is_width, network_in};
 ghost use Rattle.art_c_routes.specs.Found.{IsMatched, address_written, lengths_of, routes_from, routes_to};
 ghost use Rattle.art_c_routes.specs.Refusals.{StopsRemoving};
+ghost use Rattle.art_c_maps.specs.Many.{found_or};
 
 use crate::numbers::value_status;
 use crate::routes_handle::RoutesHandle;
@@ -77,7 +78,7 @@ pub extern "C" fn art_routes_free(alloc: Global, table: &mut RoutesHandle)
 /// The number of routes, 0 where there is no table.
 #[unsafe(no_mangle)]
 pub extern "C" fn art_routes_len(table: &mut RoutesView) -> usize
-    ensures len { result ≡ list_length (entries_of table.old.seen) }
+    ensures len { result ≡ list_length (held_entries table.old.seen) }
     ensures same { table.new ≡ table.old }
 {
     let Some(held) = table.lent() else {
@@ -145,13 +146,13 @@ pub extern "C" fn art_routes_insert(
     ensures bad_network { result ≢ ART_NO_MAP →
         (result ≡ ART_BAD_NETWORK) ↔ (is_network address.now length ≡ false) }
     ensures routes { IsRouted result →
-        table.new.held ≡ Some (put_route (entries_of table.old.held) (network_in address.now length) value) }
+        table.new.held ≡ Some (put_route (held_entries table.old.held) (network_in address.now length) value) }
     ensures status { IsRouted result →
-        result ≡ status_of (value_of (entries_of table.old.held) (network_in address.now length)) }
+        result ≡ status_of_found (route_value (held_entries table.old.held) (network_in address.now length)) }
     ensures before { IsRouted result → before.new
-        ≡ found_or (value_of (entries_of table.old.held) (network_in address.now length)) before.old }
+        ≡ found_or (route_value (held_entries table.old.held) (network_in address.now length)) before.old }
     ensures no_route { result ≡ ART_NO_MEMORY →
-        value_of (entries_of table.old.held) (network_in address.now length) ≡ None }
+        route_value (held_entries table.old.held) (network_in address.now length) ≡ None }
     ensures refused { IsUnrouted result →
         (table.new.held ≡ table.old.held) × (before.new ≡ before.old) }
 {
@@ -179,14 +180,14 @@ pub extern "C" fn art_routes_get_or_insert(
     ensures bad_network { result ≢ ART_NO_MAP →
         (result ≡ ART_BAD_NETWORK) ↔ (is_network address.now length ≡ false) }
     ensures status { IsRouted result →
-        result ≡ status_of (value_of (entries_of table.old.held) (network_in address.now length)) }
+        result ≡ status_of_found (route_value (held_entries table.old.held) (network_in address.now length)) }
     ensures found { IsRouted result → found.new
-        ≡ found_or (value_of (entries_of table.old.held) (network_in address.now length)) found.old }
+        ≡ found_or (route_value (held_entries table.old.held) (network_in address.now length)) found.old }
     ensures added { result ≡ ART_NONE →
-        table.new.held ≡ Some (put_route (entries_of table.old.held) (network_in address.now length) value) }
+        table.new.held ≡ Some (put_route (held_entries table.old.held) (network_in address.now length) value) }
     ensures kept { result ≢ ART_NONE → table.new.held ≡ table.old.held }
     ensures no_route { result ≡ ART_NO_MEMORY →
-        value_of (entries_of table.old.held) (network_in address.now length) ≡ None }
+        route_value (held_entries table.old.held) (network_in address.now length) ≡ None }
     ensures refused { IsUnrouted result → found.new ≡ found.old }
 {
     let Some(held) = table.lent_mut() else {
@@ -212,9 +213,9 @@ pub extern "C" fn art_routes_get(
     ensures bad_network { result ≢ ART_NO_MAP →
         (result ≡ ART_BAD_NETWORK) ↔ (is_network address.now length ≡ false) }
     ensures status { (result ≢ ART_NO_MAP) × (result ≢ ART_BAD_NETWORK) →
-        result ≡ status_of (value_of (entries_of table.old.seen) (network_in address.now length)) }
+        result ≡ status_of_found (route_value (held_entries table.old.seen) (network_in address.now length)) }
     ensures value { (result ≢ ART_NO_MAP) × (result ≢ ART_BAD_NETWORK) → value.new
-        ≡ found_or (value_of (entries_of table.old.seen) (network_in address.now length)) value.old }
+        ≡ found_or (route_value (held_entries table.old.seen) (network_in address.now length)) value.old }
     ensures refused { (result ≡ ART_NO_MAP) ⊎ (result ≡ ART_BAD_NETWORK) → value.new ≡ value.old }
     ensures same { table.new ≡ table.old }
 {
@@ -240,13 +241,13 @@ pub extern "C" fn art_routes_remove(
     ensures bad_network { result ≢ ART_NO_MAP →
         (result ≡ ART_BAD_NETWORK) ↔ (is_network address.now length ≡ false) }
     ensures routes { IsRouted result →
-        table.new.held ≡ Some (without_route (entries_of table.old.held) (network_in address.now length)) }
+        table.new.held ≡ Some (without_route (held_entries table.old.held) (network_in address.now length)) }
     ensures status { IsRouted result →
-        result ≡ status_of (value_of (entries_of table.old.held) (network_in address.now length)) }
+        result ≡ status_of_found (route_value (held_entries table.old.held) (network_in address.now length)) }
     ensures value { IsRouted result → value.new
-        ≡ found_or (value_of (entries_of table.old.held) (network_in address.now length)) value.old }
+        ≡ found_or (route_value (held_entries table.old.held) (network_in address.now length)) value.old }
     ensures refused_for_memory { result ≡ ART_NO_MEMORY →
-        value_of (entries_of table.old.held) (network_in address.now length) ≢ None }
+        route_value (held_entries table.old.held) (network_in address.now length) ≢ None }
     ensures refused { IsUnrouted result →
         (table.new.held ≡ table.old.held) × (value.new ≡ value.old) }
 {
@@ -274,11 +275,11 @@ pub extern "C" fn art_routes_remove_covered(
         (result ≡ ART_BAD_NETWORK) ↔ (is_network address.now length ≡ false) }
     ensures status { IsRouted result → result ≡ ART_NONE }
     ensures routes { result ≡ ART_NONE →
-        table.new.held ≡ Some (without_covered (network_in address.now length) (entries_of table.old.held)) }
+        table.new.held ≡ Some (without_covered (network_in address.now length) (held_entries table.old.held)) }
     ensures count { result ≡ ART_NONE →
-        count.new ≡ list_length (covered (network_in address.now length) (entries_of table.old.held)) }
+        count.new ≡ list_length (covered (network_in address.now length) (held_entries table.old.held)) }
     ensures stopped { result ≡ ART_NO_MEMORY → StopsRemoving (network_in address.now length)
-        (entries_of table.old.held) (entries_of table.new.held) }
+        (held_entries table.old.held) (held_entries table.new.held) }
     ensures refused { (result ≡ ART_NO_MAP) ⊎ (result ≡ ART_BAD_NETWORK) → table.new.held ≡ table.old.held }
     ensures same_count { IsUnrouted result → count.new ≡ count.old }
     ensures held { IsSome table.old.held → IsSome table.new.held }
@@ -303,8 +304,8 @@ pub extern "C" fn art_routes_aggregate(table: &mut RoutesHandle) -> u32
     ensures no_map { (result ≡ ART_NO_MAP) ↔ (table.old.held ≡ None) }
     ensures status { IsDone result → result ≡ ART_NONE }
     ensures same_matches { result ≢ ART_NO_MAP → (address : Address) →
-        MatchAlike ◌==◌ (entries_of table.old.held) (entries_of table.new.held) address }
-    ensures aggregated { result ≡ ART_NONE → IsAggregated ◌==◌ (entries_of table.new.held) }
+        MatchAlike ◌==◌ (held_entries table.old.held) (held_entries table.new.held) address }
+    ensures aggregated { result ≡ ART_NONE → IsAggregated ◌==◌ (held_entries table.new.held) }
     ensures held { IsSome table.old.held → IsSome table.new.held }
     ensures refused { result ≡ ART_NO_MAP → table.new.held ≡ table.old.held }
 {
@@ -331,9 +332,9 @@ pub extern "C" fn art_routes_longest_match(
         (result ≡ ART_BAD_NETWORK) ↔ (is_address address.now ≡ false) }
     ensures status { (result ≢ ART_NO_MAP) × (result ≢ ART_BAD_NETWORK) →
         (result ≡ ART_SOME) ⊎ (result ≡ ART_NONE) }
-    ensures longest { result ≡ ART_SOME → IsLongest (entries_of table.old.seen) (address_in address.now)
+    ensures longest { result ≡ ART_SOME → IsLongest (held_entries table.old.seen) (address_in address.now)
         (network_around (address_in address.now) length.new, value.new) }
-    ensures none { result ≡ ART_NONE → NoneContains (entries_of table.old.seen) (address_in address.now) }
+    ensures none { result ≡ ART_NONE → NoneContains (held_entries table.old.seen) (address_in address.now) }
     ensures unchanged { result ≢ ART_SOME → (length.new ≡ length.old) × (value.new ≡ value.old) }
     ensures same { table.new ≡ table.old }
 {
@@ -366,9 +367,9 @@ pub extern "C" fn art_routes_parent(
         (result ≡ ART_BAD_NETWORK) ↔ (is_network address.now length ≡ false) }
     ensures status { (result ≢ ART_NO_MAP) × (result ≢ ART_BAD_NETWORK) →
         (result ≡ ART_SOME) ⊎ (result ≡ ART_NONE) }
-    ensures parent { result ≡ ART_SOME → IsParent (entries_of table.old.seen) (network_in address.now length)
+    ensures parent { result ≡ ART_SOME → IsParent (held_entries table.old.seen) (network_in address.now length)
         (network_around (address_in address.now) parent_length.new, value.new) }
-    ensures none { result ≡ ART_NONE → NoneAround (entries_of table.old.seen) (network_in address.now length) }
+    ensures none { result ≡ ART_NONE → NoneAround (held_entries table.old.seen) (network_in address.now length) }
     ensures unchanged { result ≢ ART_SOME → (parent_length.new ≡ parent_length.old) × (value.new ≡ value.old) }
     ensures same { table.new ≡ table.old }
 {
@@ -404,7 +405,7 @@ pub extern "C" fn art_routes_longest_match_many(
     ensures status { (result ≢ ART_NO_MAP) × (result ≢ ART_BAD_NETWORK) → result ≡ ART_NONE }
     ensures count { result ≡ ART_NONE →
         count.new ≡ min (list_length addresses.now / width) (min (list_length lengths.old) (list_length values.old)) }
-    ensures matches { result ≡ ART_NONE → (i : ℕ) → i < count.new → IsMatched (entries_of table.old.seen)
+    ensures matches { result ≡ ART_NONE → (i : ℕ) → i < count.new → IsMatched (held_entries table.old.seen)
         (address_in (take width (drop (i * width) addresses.now))) (get_or values.old i 0)
         (get_or lengths.new i 0, get_or values.new i 0) }
     ensures others { result ≡ ART_NONE → (drop count.new lengths.new ≡ drop count.new lengths.old)
@@ -442,19 +443,19 @@ pub extern "C" fn art_routes_next(
     ensures bad_network { result ≢ ART_NO_MAP →
         (result ≡ ART_BAD_NETWORK) ↔ (is_network from.now from_length ≡ false) }
     ensures status { (result ≢ ART_NO_MAP) × (result ≢ ART_BAD_NETWORK) → result ≡ route_status
-        (first_of (routes_from inclusive (network_in from.now from_length) (entries_of table.old.seen)))
+        (first_of (routes_from inclusive (network_in from.now from_length) (held_entries table.old.seen)))
         (list_length address_out.old) }
     ensures address { (result ≢ ART_NO_MAP) × (result ≢ ART_BAD_NETWORK) → address_out.new ≡ address_written
-        (first_of (routes_from inclusive (network_in from.now from_length) (entries_of table.old.seen)))
+        (first_of (routes_from inclusive (network_in from.now from_length) (held_entries table.old.seen)))
         address_out.old }
     ensures width { (result ≢ ART_NO_MAP) × (result ≢ ART_BAD_NETWORK) → width.new ≡ width_or
-        (first_of (routes_from inclusive (network_in from.now from_length) (entries_of table.old.seen)))
+        (first_of (routes_from inclusive (network_in from.now from_length) (held_entries table.old.seen)))
         width.old }
     ensures length { (result ≢ ART_NO_MAP) × (result ≢ ART_BAD_NETWORK) → length.new ≡ length_in
-        (first_of (routes_from inclusive (network_in from.now from_length) (entries_of table.old.seen)))
+        (first_of (routes_from inclusive (network_in from.now from_length) (held_entries table.old.seen)))
         (list_length address_out.old) length.old }
     ensures value { (result ≢ ART_NO_MAP) × (result ≢ ART_BAD_NETWORK) → value.new ≡ route_value_in
-        (first_of (routes_from inclusive (network_in from.now from_length) (entries_of table.old.seen)))
+        (first_of (routes_from inclusive (network_in from.now from_length) (held_entries table.old.seen)))
         (list_length address_out.old) value.old }
     ensures refused { (result ≡ ART_NO_MAP) ⊎ (result ≡ ART_BAD_NETWORK) → (address_out.new ≡ address_out.old)
         × (width.new ≡ width.old) × (length.new ≡ length.old) × (value.new ≡ value.old) }
@@ -487,19 +488,19 @@ pub extern "C" fn art_routes_previous(
     ensures bad_network { result ≢ ART_NO_MAP →
         (result ≡ ART_BAD_NETWORK) ↔ (is_network to.now to_length ≡ false) }
     ensures status { (result ≢ ART_NO_MAP) × (result ≢ ART_BAD_NETWORK) → result ≡ route_status
-        (last_of (routes_to inclusive (network_in to.now to_length) (entries_of table.old.seen)))
+        (last_of (routes_to inclusive (network_in to.now to_length) (held_entries table.old.seen)))
         (list_length address_out.old) }
     ensures address { (result ≢ ART_NO_MAP) × (result ≢ ART_BAD_NETWORK) → address_out.new ≡ address_written
-        (last_of (routes_to inclusive (network_in to.now to_length) (entries_of table.old.seen)))
+        (last_of (routes_to inclusive (network_in to.now to_length) (held_entries table.old.seen)))
         address_out.old }
     ensures width { (result ≢ ART_NO_MAP) × (result ≢ ART_BAD_NETWORK) → width.new ≡ width_or
-        (last_of (routes_to inclusive (network_in to.now to_length) (entries_of table.old.seen)))
+        (last_of (routes_to inclusive (network_in to.now to_length) (held_entries table.old.seen)))
         width.old }
     ensures length { (result ≢ ART_NO_MAP) × (result ≢ ART_BAD_NETWORK) → length.new ≡ length_in
-        (last_of (routes_to inclusive (network_in to.now to_length) (entries_of table.old.seen)))
+        (last_of (routes_to inclusive (network_in to.now to_length) (held_entries table.old.seen)))
         (list_length address_out.old) length.old }
     ensures value { (result ≢ ART_NO_MAP) × (result ≢ ART_BAD_NETWORK) → value.new ≡ route_value_in
-        (last_of (routes_to inclusive (network_in to.now to_length) (entries_of table.old.seen)))
+        (last_of (routes_to inclusive (network_in to.now to_length) (held_entries table.old.seen)))
         (list_length address_out.old) value.old }
     ensures refused { (result ≡ ART_NO_MAP) ⊎ (result ≡ ART_BAD_NETWORK) → (address_out.new ≡ address_out.old)
         × (width.new ≡ width.old) × (length.new ≡ length.old) × (value.new ≡ value.old) }
@@ -533,13 +534,13 @@ pub extern "C" fn art_routes_covering(
     ensures status { (result ≢ ART_NO_MAP) × (result ≢ ART_BAD_NETWORK) → result ≡ ART_NONE }
     ensures count { result ≡ ART_NONE → count.new ≡ list_length (take
         (min (list_length lengths.old) (list_length values.old))
-        (covering (network_in address.now length) (entries_of table.old.seen))) }
+        (covering (network_in address.now length) (held_entries table.old.seen))) }
     ensures lengths { result ≡ ART_NONE → lengths.new ≡ begun_with (lengths_of (take
         (min (list_length lengths.old) (list_length values.old))
-        (covering (network_in address.now length) (entries_of table.old.seen)))) lengths.old }
+        (covering (network_in address.now length) (held_entries table.old.seen)))) lengths.old }
     ensures values { result ≡ ART_NONE → values.new ≡ begun_with (values_of (take
         (min (list_length lengths.old) (list_length values.old))
-        (covering (network_in address.now length) (entries_of table.old.seen)))) values.old }
+        (covering (network_in address.now length) (held_entries table.old.seen)))) values.old }
     ensures refused { (result ≡ ART_NO_MAP) ⊎ (result ≡ ART_BAD_NETWORK) →
         (lengths.new ≡ lengths.old) × (values.new ≡ values.old) × (count.new ≡ count.old) }
     ensures same { table.new ≡ table.old }

@@ -3,12 +3,13 @@ ghost use Rattle.std.specs.Prelude.{◌≡◌, Option, length};
 ghost use Rattle.std.specs.Option.{option_map};
 ghost use Rattle.std.specs.Ordering.{nat_cmp};
 ghost use Rattle.art_bytes.specs.Text.{text_order};
-ghost use Rattle.art_c.specs.Handles.{coded_behind, entries_of, held_row};
+ghost use Rattle.art_c.specs.Handles.{coded_behind, held_entries, held_row};
 ghost use Rattle.art_c.specs.Kinds.{bytes_of, found_in, numbers_of};
-ghost use Rattle.art_c.specs.Views.{coded_life, coded_share, sees};
+ghost use Rattle.art_c.specs.Views.{coded_share, sees};
 ghost use Rattle.art_c_maps.specs.Entries.{entries_from, entries_with_prefix, next_entries};
 ghost use Rattle.art_c_maps.specs.Lent.{LendsNext, LendsRun};
 ghost use base.Fml.{Lft, Share as LifeShare};
+ghost use Rattle.art_c_maps.specs.Loans.{coded_life};
 
 use crate::held::Held;
 use art_c_maps::{BytesEntry, Loan, NumberRun};
@@ -55,7 +56,7 @@ impl View {
     /// lends what is there.
     pub(crate) fn lend_run(&mut self, from: u64, inclusive: bool) -> (NumberRun, usize)
         ensures { LendsRun self.old.life
-            (entries_from nat_cmp inclusive from (entries_of (found_in numbers_of self.old.seen)))
+            (entries_from nat_cmp inclusive from (held_entries (found_in numbers_of self.old.seen)))
             result.0 result.1 × (self.new ≡ self.old) }
     {
         let ptr = self.ptr;
@@ -83,7 +84,7 @@ impl View {
         out: &mut [BytesEntry],
     ) -> usize
         ensures { LendsNext self.old.life (next_entries text_order (length out.old) inclusive from.now
-            (entries_with_prefix prefix.now (entries_of (found_in bytes_of self.old.seen))))
+            (entries_with_prefix prefix.now (held_entries (found_in bytes_of self.old.seen))))
             out.old out.new result × (self.new ≡ self.old) }
     {
         let ptr = self.ptr;

@@ -4,7 +4,7 @@ use Rattle.std.specs.Option.{option_map}
 use Rattle.std.specs.Prelude.{◌≢◌}
 use Rattle.std.proofs.lemmas.Bool.{le-leb, lt-leb}
 use Rattle.std.proofs.lemmas.List.{append-nil, drop_all, drop-append-le, drop-drop, length-map, length-take, take_all, take-append-le, take-map}
-use Rattle.art_c_maps.specs.Batch.{ends_after, ends_of, fit_count, joined, unfit_len}
+use Rattle.art_c_maps.specs.Batch.{ends_after, ends_of, fit_count, joined_keys, unfit_len}
 use Rattle.art_c_maps.specs.Entries.{begun_with, first_of, keys_of, values_of}
 
 abbrev Entry : Type 0
@@ -54,17 +54,17 @@ module _ (all : List Entry) (most size k at : ℕ) where
       let step : fit_count (most - k) (size - at) (drop k all) ≡ 0 = rw m refl in omega (arith, so_far, step)
 
 -- the keys so far and one more
-pub joined-one : (all : List Entry) (k : ℕ) (x : Entry) (rest : List Entry) → drop k all ≡ x ∷ rest → joined (take (k + 1) (keys_of all)) ≡ joined (take k (keys_of all)) ++ x.0
-joined-one [] zero x rest here = absurd (cc)
-joined-one [] (suc k) x rest here = absurd (cc)
-joined-one (y ∷ all) zero x rest here = let same : y ≡ x = cc in append-nil y.0 ∙ ap (λ e. e.0) same
-joined-one (y ∷ all) (suc k) x rest here =
+pub joined_keys-one : (all : List Entry) (k : ℕ) (x : Entry) (rest : List Entry) → drop k all ≡ x ∷ rest → joined_keys (take (k + 1) (keys_of all)) ≡ joined_keys (take k (keys_of all)) ++ x.0
+joined_keys-one [] zero x rest here = absurd (cc)
+joined_keys-one [] (suc k) x rest here = absurd (cc)
+joined_keys-one (y ∷ all) zero x rest here = let same : y ≡ x = cc in append-nil y.0 ∙ ap (λ e. e.0) same
+joined_keys-one (y ∷ all) (suc k) x rest here =
     let one : suc k ≡ k + 1 = omega arith in
-    rw add-one (ap (λ bytes. y.0 ++ bytes) (ap (λ n. joined (take n (keys_of all))) one ∙ joined-one all k x rest here) ∙ sym (append_assoc y.0 (joined (take k (keys_of all))) x.0))
+    rw add-one (ap (λ bytes. y.0 ++ bytes) (ap (λ n. joined_keys (take n (keys_of all))) one ∙ joined_keys-one all k x rest here) ∙ sym (append_assoc y.0 (joined_keys (take k (keys_of all))) x.0))
 
 -- the end of a key, behind the ends of those before it
 ends-from : (start : ℕ) (all : List Entry) (k : ℕ) (x : Entry) (rest : List Entry) → drop k all ≡ x ∷ rest
-    → drop k (ends_after start all) ≡ (start + length (joined (take k (keys_of all))) + length x.0) ∷ ends_after (start + length (joined (take k (keys_of all))) + length x.0) rest
+    → drop k (ends_after start all) ≡ (start + length (joined_keys (take k (keys_of all))) + length x.0) ∷ ends_after (start + length (joined_keys (take k (keys_of all))) + length x.0) rest
 ends-from start [] zero x rest here = absurd (cc)
 ends-from start [] (suc k) x rest here = absurd (cc)
 ends-from start (y ∷ all) zero x rest here =
@@ -72,14 +72,14 @@ ends-from start (y ∷ all) zero x rest here =
     let first : y ≡ x = cc in let later : all ≡ rest = cc in
     rw (← first, ← later) (sym (ap (λ n. n ∷ ends_after n all) none))
 ends-from start (y ∷ all) (suc k) x rest here =
-    let long : length (y.0 ++ joined (take k (keys_of all))) ≡ length y.0 + length (joined (take k (keys_of all))) = length-append y.0 (joined (take k (keys_of all))) in
-    let sum : start + length y.0 + length (joined (take k (keys_of all))) + length x.0 ≡ start + length (y.0 ++ joined (take k (keys_of all))) + length x.0 = omega (arith, long) in
+    let long : length (y.0 ++ joined_keys (take k (keys_of all))) ≡ length y.0 + length (joined_keys (take k (keys_of all))) = length-append y.0 (joined_keys (take k (keys_of all))) in
+    let sum : start + length y.0 + length (joined_keys (take k (keys_of all))) + length x.0 ≡ start + length (y.0 ++ joined_keys (take k (keys_of all))) + length x.0 = omega (arith, long) in
     ends-from (start + length y.0) all k x rest here ∙ ap (λ n. n ∷ ends_after n rest) sum
 
-pub ends-left : (all : List Entry) (k at : ℕ) (x : Entry) (rest : List Entry) → drop k all ≡ x ∷ rest → at ≡ length (joined (take k (keys_of all)))
+pub ends-left : (all : List Entry) (k at : ℕ) (x : Entry) (rest : List Entry) → drop k all ≡ x ∷ rest → at ≡ length (joined_keys (take k (keys_of all)))
     → drop k (ends_of all) ≡ (at + length x.0) ∷ ends_after (at + length x.0) rest
 ends-left all k at x rest here is =
-    let sum : 0 + length (joined (take k (keys_of all))) + length x.0 ≡ at + length x.0 = omega (arith, is) in
+    let sum : 0 + length (joined_keys (take k (keys_of all))) + length x.0 ≡ at + length x.0 = omega (arith, is) in
     ends-from 0 all k x rest here ∙ ap (λ n. n ∷ ends_after n rest) sum
 
 pub length-ends : (start : ℕ) (all : List Entry) → length (ends_after start all) ≡ length all
@@ -103,11 +103,11 @@ key-written so_far bytes buffer keys at is long =
 
 -- the buffers at the end, when no more entries fit than are written
 module _ (all : List Entry) (n k : ℕ) (is : n ≡ k) (enough : k ≤ length all) where
-  pub keys-done : (buffer : List ℕ) (at : ℕ) → at ≡ length (joined (take k (keys_of all)))
-      → joined (take k (keys_of all)) ++ drop at buffer ≡ begun_with (joined (keys_of (take n all))) buffer
+  pub keys-done : (buffer : List ℕ) (at : ℕ) → at ≡ length (joined_keys (take k (keys_of all)))
+      → joined_keys (take k (keys_of all)) ++ drop at buffer ≡ begun_with (joined_keys (keys_of (take n all))) buffer
   keys-done buffer at long =
-      ap (λ m. joined (take k (keys_of all)) ++ drop m buffer) long
-      ∙ ap (λ keys. joined keys ++ drop (length (joined keys)) buffer) (take-map (λ e. e.0) k all ∙ ap (λ m. keys_of (take m all)) (sym is))
+      ap (λ m. joined_keys (take k (keys_of all)) ++ drop m buffer) long
+      ∙ ap (λ keys. joined_keys keys ++ drop (length (joined_keys keys)) buffer) (take-map (λ e. e.0) k all ∙ ap (λ m. keys_of (take m all)) (sym is))
 
   many : length (take n all) ≡ k
   many = omega (arith, is, enough, length-take n all)

@@ -29,8 +29,8 @@ unfit_len [] first = option_map (λ entry. length entry.0) first
 unfit_len (entry ∷ entries) first = None
 
 -- the keys, one behind another
-abbrev pub joined : List (List ℕ) → List ℕ
-joined keys = flat_map (λ key. key) keys
+abbrev pub joined_keys : List (List ℕ) → List ℕ
+joined_keys keys = flat_map (λ key. key) keys
 
 -- where the key of each entry ends among them; the first begins at this place
 abbrev pub ends_after : ℕ → List (List ℕ × ℕ) → List ℕ

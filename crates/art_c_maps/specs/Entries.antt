@@ -5,7 +5,7 @@ use Rattle.std.specs.List.{fold, starts_with}
 use Rattle.std.specs.Map.{lookup, remove_entry}
 use Rattle.std.specs.Ordering.{is_ge, is_gt, is_le, is_lt}
 use Rattle.std.specs.declared.cmp.Ordering.{Ordering}
-use Rattle.art_c_maps.specs.ByteStrings.{key_bytes}
+use Rattle.art_c_maps.specs.ByteStrings.{bytes_of_string}
 use Rattle.art_c_maps.specs.declared.byte_string.ByteString.{ByteString}
 
 module _ {K V : Type 0} (order : K → K → Ordering) where
@@ -65,4 +65,4 @@ begun_with items buffer = items ++ drop (length items) buffer
 
 -- the entries with the bytes of each key
 abbrev pub entries_in_bytes : {V : Type 0} → List (ByteString × V) → List (List ℕ × V)
-entries_in_bytes entries = map (λ entry. (key_bytes entry.0, entry.1)) entries
+entries_in_bytes entries = map (λ entry. (bytes_of_string entry.0, entry.1)) entries

@@ -12,7 +12,7 @@ use Rattle.art_keys.specs.GroupLaws.{strings_are_bytes, strings_sort}
 use Rattle.art_keys.specs.Prefixes.{grouped_bound, prefix_cmp}
 use Rattle.art_keys.specs.PrefixLaws.{agrees_alone, grouped_bounds_agree, grouped_bounds_are_bytes}
 use Rattle.art_keys.specs.declared.prefix.Edge.TheVariants.{Highest}
-use Rattle.art_c_maps.specs.ByteStrings.{key_bytes}
+use Rattle.art_c_maps.specs.ByteStrings.{bytes_of_string}
 use Rattle.art_c_maps.specs.declared.byte_string.ByteString.{ByteString}
 use Rattle.art_c_maps.specs.declared.limit.Limit.{Limit}
 use Rattle.art_c_maps.specs.declared.limit.Limit.TheVariants.{Key, Behind}
@@ -29,20 +29,20 @@ is_limit (Behind prefix) = IsText prefix.now
 
 -- how it compares to a key: the limit behind a prefix is above all keys that begin so
 abbrev pub limit_compare : Limit → ByteString → Ordering
-limit_compare (Key key) other = text_order key.now (key_bytes other)
-limit_compare (Behind prefix) other = ordering_then (prefix_cmp prefix.now (key_bytes other)) Greater
+limit_compare (Key key) other = text_order key.now (bytes_of_string other)
+limit_compare (Behind prefix) other = ordering_then (prefix_cmp prefix.now (bytes_of_string other)) Greater
 
 pub limits_are_bytes : (limit : Limit) → is_limit limit → IsText (limit_encoded limit)
 limits_are_bytes (Key key) is = strings_are_bytes key.now is
 limits_are_bytes (Behind prefix) is = grouped_bounds_are_bytes prefix.now Highest is
 
 -- and sorts as it does
-pub limits_agree : (limit : Limit) (other : ByteString) → is_limit limit → IsText (key_bytes other) → length (grouped (key_bytes other)) < 2 ^ 32
-    → Agrees (text_order (limit_encoded limit) (grouped (key_bytes other))) (limit_compare limit other)
+pub limits_agree : (limit : Limit) (other : ByteString) → is_limit limit → IsText (bytes_of_string other) → length (grouped (bytes_of_string other)) < 2 ^ 32
+    → Agrees (text_order (limit_encoded limit) (grouped (bytes_of_string other))) (limit_compare limit other)
 limits_agree (Key key) other is other_is short =
-    let bytes = key_bytes other in
+    let bytes = bytes_of_string other in
     sorted_agrees (text_order key.now bytes) (grouped key.now) (grouped bytes) (strings_sort key.now bytes)
 limits_agree (Behind prefix) other is other_is short =
-    let bytes = key_bytes other in
+    let bytes = bytes_of_string other in
     agrees_alone (prefix_cmp prefix.now bytes) Highest (grouped_bound prefix.now Highest) (grouped bytes)
     (λ rest rest_is fits. grouped_bounds_agree prefix.now Highest bytes rest (All-append IsByte (grouped bytes) rest (strings_are_bytes bytes other_is) rest_is) fits) short

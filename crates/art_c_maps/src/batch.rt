@@ -1,7 +1,7 @@
 //! Many entries of a map by bytes, into buffers of a caller.
 ghost use Rattle.std.specs.Prelude.{◌≡◌, ◌≢◌, ◌+◌, ◌≤◌, ◌∷◌, ◌++◌, [], drop, length, min, take, IfNone, IfSome, None, Some};
 ghost use Rattle.std.specs.Option.{option_map};
-ghost use Rattle.art_c_maps.specs.Batch.{ends_of, fitting, joined, toward, unfit_len};
+ghost use Rattle.art_c_maps.specs.Batch.{ends_of, fitting, joined_keys, toward, unfit_len};
 ghost use Rattle.art_c_maps.specs.Entries.{begun_with, entries_in_bytes, first_of, keys_of, values_of};
 
 use crate::byte_string::ByteString;
@@ -64,7 +64,7 @@ pub(crate) fn write_batch(
         (fitting (min (length ends.old) (length values.old)) (length keys.old)
         (toward backward (entries_in_bytes entries.entry)))
         (first_of (toward backward (entries_in_bytes entries.entry))) }
-    ensures keys { keys.new ≡ begun_with (joined (keys_of (fitting
+    ensures keys { keys.new ≡ begun_with (joined_keys (keys_of (fitting
         (min (length ends.old) (length values.old)) (length keys.old)
         (toward backward (entries_in_bytes entries.entry))))) keys.old }
     ensures ends { ends.new ≡ begun_with (ends_of (fitting

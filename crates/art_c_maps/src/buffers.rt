@@ -1,7 +1,7 @@
 //! Keys of entries that are found, written into a buffer of a caller.
 ghost use Rattle.std.specs.Prelude.{◌≡◌};
 ghost use Rattle.std.specs.Option.{option_map};
-ghost use Rattle.art_c_maps.specs.ByteStrings.{key_bytes};
+ghost use Rattle.art_c_maps.specs.ByteStrings.{bytes_of_string};
 ghost use Rattle.art_c_maps.specs.Buffers.{key_fits, key_written, len_and_value, written};
 
 use crate::byte_string::ByteString;
@@ -22,9 +22,9 @@ pub(crate) fn write_found(
     key_out: &mut [u8],
 ) -> Option<(usize, u64)>
     ensures found { result ≡ option_map len_and_value (option_map
-        (λ (key, value). (key_bytes key.now, value.now)) found.entry) }
+        (λ (key, value). (bytes_of_string key.now, value.now)) found.entry) }
     ensures written { key_out.new ≡ key_written (option_map
-        (λ (key, value). (key_bytes key.now, value.now)) found.entry) key_out.old }
+        (λ (key, value). (bytes_of_string key.now, value.now)) found.entry) key_out.old }
 {
     let (key, value) = found?;
     let bytes = key.as_bytes();
@@ -38,9 +38,9 @@ pub(crate) fn write_removed(
     key_out: &mut [u8],
 ) -> Option<(usize, u64)>
     ensures found { result ≡ option_map len_and_value
-        (option_map (λ (key, value). (key_bytes key, value)) removed) }
+        (option_map (λ (key, value). (bytes_of_string key, value)) removed) }
     ensures written { key_out.new ≡ key_written
-        (option_map (λ (key, value). (key_bytes key, value)) removed) key_out.old }
+        (option_map (λ (key, value). (bytes_of_string key, value)) removed) key_out.old }
 {
     let (key, value) = removed?;
     let bytes = key.as_bytes();
@@ -51,7 +51,7 @@ pub(crate) fn write_removed(
 /// Whether an entry was found whose key fits into so many bytes.
 pub(crate) fn found_fits(found: Option<(&ByteString, &u64)>, room: usize) -> bool
     ensures { result ≡ key_fits (option_map
-        (λ (key, value). (key_bytes key.now, value.now)) found.entry) room }
+        (λ (key, value). (bytes_of_string key.now, value.now)) found.entry) room }
 {
     match found {
         Some((key, _)) => key.as_bytes().len() <= room,

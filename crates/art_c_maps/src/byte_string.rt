@@ -9,7 +9,7 @@ ghost use Rattle.art_keys.specs.Groups.{grouped};
 ghost use Rattle.art_keys.specs.GroupLaws.{strings_are_bytes, strings_sort};
 ghost use Rattle.art_keys.specs.Prefixes.{begins_with, grouped_bound, prefix_cmp};
 ghost use Rattle.art_keys.specs.PrefixLaws.{grouped_bounds_agree, grouped_bounds_are_bytes, starts_equal};
-ghost use Rattle.art_c_maps.specs.ByteStrings.{form_bytes, key_bytes};
+ghost use Rattle.art_c_maps.specs.ByteStrings.{bytes_of_string, string_form_bytes};
 
 use crate::few_bytes::{Boxed, Short};
 use art_keys::{Edge, KeyBytes, PrefixQuery, RadixKey, RadixQuery};
@@ -41,7 +41,7 @@ pub(crate) struct ByteString {
 impl ByteString {
     /// The string of these bytes. Takes memory for more than 22.
     pub(crate) fn new(alloc: Global, bytes: &[u8]) -> Result<ByteString, AllocError>
-        ensures bytes { IfOk result (λ string. key_bytes string ≡ bytes.now) }
+        ensures bytes { IfOk result (λ string. bytes_of_string string ≡ bytes.now) }
         ensures takes_no_memory { length bytes.now ≤ 22 → IsOk result }
     {
         let form = form_of(alloc, bytes)?;
@@ -58,7 +58,7 @@ impl ByteString {
     /// The bytes.
     #[inline]
     pub(crate) fn as_bytes(&self) -> &[u8]
-        ensures { result.now ≡ key_bytes self.now }
+        ensures { result.now ≡ bytes_of_string self.now }
     {
         match &self.form {
             Form::Short(short) => short.as_bytes(),
@@ -75,7 +75,7 @@ impl ByteString {
 
 // The form that has room for these bytes.
 fn form_of(alloc: Global, bytes: &[u8]) -> Result<Form, AllocError>
-    ensures bytes { IfOk result (λ form. form_bytes form ≡ bytes.now) }
+    ensures bytes { IfOk result (λ form. string_form_bytes form ≡ bytes.now) }
     ensures takes_no_memory { length bytes.now ≤ 22 → IsOk result }
 {
     let len = bytes.len();
@@ -106,9 +106,9 @@ fn form_of(alloc: Global, bytes: &[u8]) -> Result<Form, AllocError>
 }
 
 impl PartialEq for ByteString {
-    ghost eq = { λ x y. pointwise nat_eq (key_bytes x) (key_bytes y) };
+    ghost eq = { λ x y. pointwise nat_eq (bytes_of_string x) (bytes_of_string y) };
 
-    ghost laws = { on_per (λ x. key_bytes x) (partial_equiv_from_equiv nat_list_eq_equiv) };
+    ghost laws = { on_per (λ x. bytes_of_string x) (partial_equiv_from_equiv nat_list_eq_equiv) };
 
     fn eq(&self, other: &Self) -> bool {
         self.as_bytes() == other.as_bytes()
@@ -116,13 +116,13 @@ impl PartialEq for ByteString {
 }
 
 impl Eq for ByteString {
-    ghost laws = { on_equiv (λ x. key_bytes x) nat_list_eq_equiv };
+    ghost laws = { on_equiv (λ x. bytes_of_string x) nat_list_eq_equiv };
 }
 
 impl PartialOrd for ByteString {
-    ghost partial_cmp = { λ x y. Some (text_order (key_bytes x) (key_bytes y)) };
+    ghost partial_cmp = { λ x y. Some (text_order (bytes_of_string x) (bytes_of_string y)) };
 
-    ghost laws = { on_po (λ x. key_bytes x) texts_po };
+    ghost laws = { on_po (λ x. bytes_of_string x) texts_po };
 
     fn partial_cmp(&self, other: &Self) -> Option<Ordering> {
         Some(self.cmp(other))
@@ -130,13 +130,13 @@ impl PartialOrd for ByteString {
 }
 
 impl Ord for ByteString {
-    ghost cmp = { λ x y. text_order (key_bytes x) (key_bytes y) };
+    ghost cmp = { λ x y. text_order (bytes_of_string x) (bytes_of_string y) };
 
-    ghost total = { on_total (λ x. key_bytes x) nat_list_cmp_total };
+    ghost total = { on_total (λ x. bytes_of_string x) nat_list_cmp_total };
 
     ghost matches_partial_cmp = { λ x y. refl };
 
-    ghost matches_eq = { λ x y. texts_ties (key_bytes x) (key_bytes y) };
+    ghost matches_eq = { λ x y. texts_ties (bytes_of_string x) (bytes_of_string y) };
 
     fn cmp(&self, other: &Self) -> Ordering {
         self.as_bytes().cmp(other.as_bytes())
@@ -144,11 +144,11 @@ impl Ord for ByteString {
 }
 
 impl KeyBytes for ByteString {
-    ghost encoded = { λ x. grouped (key_bytes x) };
+    ghost encoded = { λ x. grouped (bytes_of_string x) };
 
-    ghost is_key = { λ x. IsText (key_bytes x) };
+    ghost is_key = { λ x. IsText (bytes_of_string x) };
 
-    ghost order = { λ x y. text_order (key_bytes x) (key_bytes y) };
+    ghost order = { λ x y. text_order (bytes_of_string x) (bytes_of_string y) };
 }
 
 impl RadixKey for ByteString {
@@ -156,9 +156,9 @@ impl RadixKey for ByteString {
 
     ghost ordered = { refl };
 
-    ghost are_bytes = { λ x is. strings_are_bytes (key_bytes x) is };
+    ghost are_bytes = { λ x is. strings_are_bytes (bytes_of_string x) is };
 
-    ghost sorted = { λ x y _ _. strings_sort (key_bytes x) (key_bytes y) };
+    ghost sorted = { λ x y _ _. strings_sort (bytes_of_string x) (bytes_of_string y) };
 
     #[inline]
     fn encoded_len(&self) -> usize {
@@ -184,12 +184,12 @@ impl RadixQuery<ByteString> for &[u8] {
 
     ghost is_query = { λ q. IsText q.now };
 
-    ghost compare = { λ q x. text_order q.now (key_bytes x) };
+    ghost compare = { λ q x. text_order q.now (bytes_of_string x) };
 
     ghost are_bytes = { λ q is. strings_are_bytes q.now is };
 
-    ghost agrees = { λ q x _ _ _. sorted_agrees (text_order q.now (key_bytes x)) (grouped q.now)
-        (grouped (key_bytes x)) (strings_sort q.now (key_bytes x)) };
+    ghost agrees = { λ q x _ _ _. sorted_agrees (text_order q.now (bytes_of_string x)) (grouped q.now)
+        (grouped (bytes_of_string x)) (strings_sort q.now (bytes_of_string x)) };
 
     #[inline]
     fn compare(&self, key: &ByteString) -> Ordering {
@@ -224,18 +224,18 @@ fn compare_front(prefix: &[u8], bytes: &[u8]) -> Ordering
 impl PrefixQuery<ByteString> for &[u8] {
     ghost is_prefix = { λ q. IsText q.now };
 
-    ghost begins = { λ q x. begins_with q.now (key_bytes x) };
+    ghost begins = { λ q x. begins_with q.now (bytes_of_string x) };
 
-    ghost compare_start = { λ q x. prefix_cmp q.now (key_bytes x) };
+    ghost compare_start = { λ q x. prefix_cmp q.now (bytes_of_string x) };
 
     ghost bound_encoded = { λ q. grouped_bound q.now };
 
-    ghost begins_is = { λ q x. starts_equal q.now (key_bytes x) };
+    ghost begins_is = { λ q x. starts_equal q.now (bytes_of_string x) };
 
     ghost are_bytes = { λ q edge is. grouped_bounds_are_bytes q.now edge is };
 
-    ghost agrees = { λ q edge x _ x_is rest rest_is short. grouped_bounds_agree q.now edge (key_bytes x) rest
-        (All-append IsByte (grouped (key_bytes x)) rest (strings_are_bytes (key_bytes x) x_is) rest_is) short };
+    ghost agrees = { λ q edge x _ x_is rest rest_is short. grouped_bounds_agree q.now edge (bytes_of_string x) rest
+        (All-append IsByte (grouped (bytes_of_string x)) rest (strings_are_bytes (bytes_of_string x) x_is) rest_is) short };
 
     fn compare_start(&self, key: &ByteString) -> Ordering {
         compare_front(*self, key.as_bytes())

@@ -1,9 +1,9 @@
 //! Maps by bytes.
-ghost use Rattle.std.specs.Prelude.{◌≡◌, ◌-◌, ◌<◌, [], drop, get_or, length, min, reverse, take, true, IfErr, IfNone, IfOk, IfSome, None, OnErr, OnOk, Some, if◌then◌else◌};
+ghost use Rattle.std.specs.Prelude.{IfErr, IfNone, IfOk, IfSome, None, OnErr, OnOk, Some, [], drop, get_or, if◌then◌else◌, length, min, reverse, take, true, ◌-◌, ◌<◌, ◌≡◌};
 ghost use Rattle.std.specs.List.{zip};
 ghost use Rattle.std.specs.Option.{option_map};
 ghost use Rattle.art_bytes.specs.Text.{text_order};
-ghost use Rattle.art_c_maps.specs.Batch.{ends_of, joined, next_fitting, previous_fitting, unfit_len};
+ghost use Rattle.art_c_maps.specs.Batch.{ends_of, joined_keys, next_fitting, previous_fitting, unfit_len};
 ghost use Rattle.art_c_maps.specs.Buffers.{key_fits, key_written, len_and_value};
 ghost use Rattle.art_c_maps.specs.Entries.{begun_with, entries_from, entries_in_bytes, entries_to, entries_with_prefix, first_of, keys_of, last_of, next_entries, put, put_each, value_of, values_of, without};
 ghost use Rattle.art_c_maps.specs.Lent.{LendsNext};
@@ -258,7 +258,7 @@ impl BytesMap {
             prefix.now inclusive from.now self.now)
             (first_of (entries_from text_order inclusive from.now
             (entries_with_prefix prefix.now self.now))) }
-        ensures keys { keys.new ≡ begun_with (joined (keys_of (next_fitting
+        ensures keys { keys.new ≡ begun_with (joined_keys (keys_of (next_fitting
             (min (length ends.old) (length values.old)) (length keys.old)
             prefix.now inclusive from.now self.now))) keys.old }
         ensures ends { ends.new ≡ begun_with (ends_of (next_fitting
@@ -309,7 +309,7 @@ impl BytesMap {
             prefix.now inclusive from.now self.now)
             (first_of (reverse (entries_to text_order inclusive from.now
             (entries_with_prefix prefix.now self.now)))) }
-        ensures keys { keys.new ≡ begun_with (joined (keys_of (previous_fitting
+        ensures keys { keys.new ≡ begun_with (joined_keys (keys_of (previous_fitting
             (min (length ends.old) (length values.old)) (length keys.old)
             prefix.now inclusive from.now self.now))) keys.old }
         ensures ends { ends.new ≡ begun_with (ends_of (previous_fitting

@@ -6,7 +6,7 @@ ghost use Rattle.art_bytes.specs.Text.{text_order};
 ghost use Rattle.art_keys.specs.Prefixes.{prefix_cmp};
 ghost use Rattle.art_map.specs.Ranges.{is_from, is_past};
 ghost use Rattle.art_keys.specs.declared.prefix.Edge.TheVariants.{Highest};
-ghost use Rattle.art_c_maps.specs.ByteStrings.{key_bytes};
+ghost use Rattle.art_c_maps.specs.ByteStrings.{bytes_of_string};
 ghost use Rattle.art_c_maps.specs.Limits.{is_limit, limit_compare, limit_encoded, limits_agree, limits_are_bytes};
 
 use crate::byte_string::ByteString;
@@ -81,9 +81,9 @@ impl<'a> RadixQuery<ByteString> for Limit<'a> {
 /// A bound at a key: of a start or an end within which the key itself is where it is included.
 pub(crate) fn bound_at(key: &[u8], inclusive: bool) -> Bound<Limit<'_>>
     ensures start { (x : _) → is_from limit_compare result x
-        ≡ (if inclusive then is_le (text_order key.now (key_bytes x)) else is_lt (text_order key.now (key_bytes x))) }
+        ≡ (if inclusive then is_le (text_order key.now (bytes_of_string x)) else is_lt (text_order key.now (bytes_of_string x))) }
     ensures end { (x : _) → not (is_past limit_compare result x)
-        ≡ (if inclusive then is_ge (text_order key.now (key_bytes x)) else is_gt (text_order key.now (key_bytes x))) }
+        ≡ (if inclusive then is_ge (text_order key.now (bytes_of_string x)) else is_gt (text_order key.now (bytes_of_string x))) }
 {
     let limit = Limit::Key(key);
     if inclusive {
@@ -95,7 +95,7 @@ pub(crate) fn bound_at(key: &[u8], inclusive: bool) -> Bound<Limit<'_>>
 
 // A start bound before all keys that begin with a prefix.
 fn start_of(prefix: &[u8]) -> Bound<Limit<'_>>
-    ensures { (x : _) → is_from limit_compare result x ≡ is_le (text_order prefix.now (key_bytes x)) }
+    ensures { (x : _) → is_from limit_compare result x ≡ is_le (text_order prefix.now (bytes_of_string x)) }
 {
     if prefix.is_empty() {
         Bound::Unbounded
@@ -106,7 +106,7 @@ fn start_of(prefix: &[u8]) -> Bound<Limit<'_>>
 
 // An end bound behind all keys that begin with a prefix.
 fn end_of(prefix: &[u8]) -> Bound<Limit<'_>>
-    ensures { (x : _) → is_past limit_compare result x ≡ is_lt (prefix_cmp prefix.now (key_bytes x)) }
+    ensures { (x : _) → is_past limit_compare result x ≡ is_lt (prefix_cmp prefix.now (bytes_of_string x)) }
 {
     if prefix.is_empty() {
         Bound::Unbounded
@@ -131,8 +131,8 @@ pub(crate) fn limits_from<'a>(
     inclusive: bool,
 ) -> (Bound<Limit<'a>>, Bound<Limit<'a>>)
     ensures { (x : _) → (is_from limit_compare result.0 x && not (is_past limit_compare result.1 x))
-        ≡ (starts_with nat_eq (key_bytes x) prefix.now
-        && (if inclusive then is_le (text_order from.now (key_bytes x)) else is_lt (text_order from.now (key_bytes x)))) }
+        ≡ (starts_with nat_eq (bytes_of_string x) prefix.now
+        && (if inclusive then is_le (text_order from.now (bytes_of_string x)) else is_lt (text_order from.now (bytes_of_string x)))) }
 {
     let end = end_of(prefix);
     let is_before = compare_start(prefix, from).is_gt();
@@ -150,8 +150,8 @@ pub(crate) fn limits_to<'a>(
     inclusive: bool,
 ) -> (Bound<Limit<'a>>, Bound<Limit<'a>>)
     ensures { (x : _) → (is_from limit_compare result.0 x && not (is_past limit_compare result.1 x))
-        ≡ (starts_with nat_eq (key_bytes x) prefix.now
-        && (if inclusive then is_ge (text_order from.now (key_bytes x)) else is_gt (text_order from.now (key_bytes x)))) }
+        ≡ (starts_with nat_eq (bytes_of_string x) prefix.now
+        && (if inclusive then is_ge (text_order from.now (bytes_of_string x)) else is_gt (text_order from.now (bytes_of_string x)))) }
 {
     let start = start_of(prefix);
     let is_behind = compare_start(prefix, from).is_lt();

@@ -15,7 +15,7 @@ use Rattle.art_c_maps.specs.Entries.{begun_with}
 use Rattle.art_c_maps.specs.Buffers.{written}
 use Rattle.art_c_maps.proofs.WriteLemmas.{left-behind, take-min}
 use Rattle.art_c_routes.specs.Addresses.{address_bytes, byte_count, network_in}
-use Rattle.art_c_routes.specs.Available.{AreAvailable, addresses_of}
+use Rattle.art_c_routes.specs.Available.{AreAvailable, joined_addresses}
 
 -- an address has as many bytes as its width says
 pub bytes-long : (address : Address) → ((address.width ≡ 32) ⊎ (address.width ≡ 128)) → length (address_bytes address) ≡ byte_count address
@@ -54,12 +54,12 @@ module _ (width : ℕ) where
       All-cons (λ p. length (address_bytes p.address) ≡ width) part (take k parts) (All-head (λ p. length (address_bytes p.address) ≡ width) part parts are)
       (first-wide k parts (All-tail (λ p. length (address_bytes p.address) ≡ width) part parts are))
 
-  pub all-long : (parts : List Block) → AreWide parts → length (addresses_of parts) ≡ length parts * width
+  pub all-long : (parts : List Block) → AreWide parts → length (joined_addresses parts) ≡ length parts * width
   all-long [] are = omega arith
   all-long (part ∷ parts) are =
       let here = All-head (λ p. length (address_bytes p.address) ≡ width) part parts are in
       let rest = all-long parts (All-tail (λ p. length (address_bytes p.address) ≡ width) part parts are) in
-      omega (arith, here, rest, length-append (address_bytes part.address) (addresses_of parts))
+      omega (arith, here, rest, length-append (address_bytes part.address) (joined_addresses parts))
 
   wide-at : (parts : List Block) (k : ℕ) (part : Block) (rest : List Block) → AreWide parts → drop k parts ≡ part ∷ rest → length (address_bytes part.address) ≡ width
   wide-at [] zero part rest are left = absurd (cc)
@@ -71,21 +71,21 @@ module _ (width : ℕ) where
 
   -- all are written
   pub done-written : (parts : List Block) (buffer : List ℕ) (k most : ℕ) → AreWide parts → k ≡ min most (length parts)
-      → addresses_of (take k parts) ++ drop (k * width) buffer ≡ begun_with (addresses_of (take most parts)) buffer
+      → joined_addresses (take k parts) ++ drop (k * width) buffer ≡ begun_with (joined_addresses (take most parts)) buffer
   done-written parts buffer k most are is =
       let same : take k parts ≡ take most parts = ap (λ n. take n parts) is ∙ take-min most parts in
-      let long : k * width ≡ length (addresses_of (take most parts)) =
+      let long : k * width ≡ length (joined_addresses (take most parts)) =
       ap (λ n. n * width) (is ∙ sym (length-take most parts)) ∙ sym (all-long (take most parts) (first-wide most parts are)) in
-      (λ i. addresses_of (same i) ++ drop (long i) buffer)
+      (λ i. joined_addresses (same i) ++ drop (long i) buffer)
 
   -- one address more is written
   pub more-written : (parts : List Block) (buffer : List ℕ) (k : ℕ) (part : Block) (rest : List Block) → AreWide parts → drop k parts ≡ part ∷ rest → (k + 1) * width ≤ length buffer
-      → take (k * width) (addresses_of (take k parts) ++ drop (k * width) buffer) ++ written (address_bytes part.address) (drop (k * width) (addresses_of (take k parts) ++ drop (k * width) buffer))
-      ≡ addresses_of (take (k + 1) parts) ++ drop ((k + 1) * width) buffer
+      → take (k * width) (joined_addresses (take k parts) ++ drop (k * width) buffer) ++ written (address_bytes part.address) (drop (k * width) (joined_addresses (take k parts) ++ drop (k * width) buffer))
+      ≡ joined_addresses (take (k + 1) parts) ++ drop ((k + 1) * width) buffer
   more-written parts buffer k part rest are left fits =
       let wide = wide-at parts k part rest are left in
       let bytes = address_bytes part.address in
-      let done = addresses_of (take k parts) in
+      let done = joined_addresses (take k parts) in
       let behind = drop (k * width) buffer in
       let some = left-behind parts k part rest left in
       let long : length done ≡ k * width = all-long (take k parts) (first-wide k parts are) ∙ ap (λ n. n * width) (length-take-le k parts (omega (arith, some.1))) in
@@ -93,8 +93,8 @@ module _ (width : ℕ) where
       let kept : take (k * width) (done ++ behind) ≡ done = ap (λ n. take n (done ++ behind)) (sym long) ∙ take-append_seam done behind in
       let gone : drop (k * width) (done ++ behind) ≡ behind = ap (λ n. drop n (done ++ behind)) (sym long) ∙ drop-append_seam done behind in
       let at_end : drop (length bytes) behind ≡ drop ((k + 1) * width) buffer = ap (λ n. drop n behind) wide ∙ drop-drop width (k * width) buffer ∙ ap (λ n. drop n buffer) (sum-suc k width) in
-      let one : addresses_of (take (k + 1) parts) ≡ done ++ bytes =
-      ap addresses_of (take-more parts k part rest left) ∙ flat_map-append (λ p. address_bytes p.address) (take k parts) (part ∷ []) ∙ ap (λ xs. done ++ xs) (append-nil bytes) in
+      let one : joined_addresses (take (k + 1) parts) ≡ done ++ bytes =
+      ap joined_addresses (take-more parts k part rest left) ∙ flat_map-append (λ p. address_bytes p.address) (take k parts) (part ∷ []) ∙ ap (λ xs. done ++ xs) (append-nil bytes) in
       (λ i. kept i ++ written bytes (gone i))
       ∙ ap (λ xs. done ++ xs) (fits-written bytes behind room)
       ∙ ap (λ xs. done ++ (bytes ++ xs)) at_end

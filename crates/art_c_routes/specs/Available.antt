@@ -16,5 +16,5 @@ pub record AreAvailable (routes : List (Block × ℕ)) (network : Block) (count 
   pub exactly : (part : Block) → Contains free part ↔ (IsFree routes network count part × (length after ≢ 0 → BeginsBehind (network_in after count) part))
 
 -- their addresses, one behind another
-abbrev pub addresses_of : List Block → List ℕ
-addresses_of parts = flat_map (λ part. address_bytes part.address) parts
+abbrev pub joined_addresses : List Block → List ℕ
+joined_addresses parts = flat_map (λ part. address_bytes part.address) parts

@@ -4,7 +4,7 @@ ghost use Rattle.art_routes.specs.Networks.{Block, address_of};
 ghost use Rattle.art_c_maps.specs.Entries.{begun_with};
 ghost use Rattle.art_c_maps.specs.Buffers.{written};
 ghost use Rattle.art_c_routes.specs.Addresses.{address_bytes, is_network, is_width, network_in};
-ghost use Rattle.art_c_routes.specs.Available.{AreAvailable, addresses_of, is_place};
+ghost use Rattle.art_c_routes.specs.Available.{AreAvailable, is_place, joined_addresses};
 
 use crate::address::{network_from, write_address};
 use crate::number_routes::NumberRoutes;
@@ -24,7 +24,7 @@ fn write_addresses(mut free: Free<'_, u64>, width: usize, out: &mut [u8]) -> usi
     requires width { is_width width ≡ true }
     requires widths { All (λ part. list_length (address_bytes part.address) ≡ width) free }
     ensures count { result ≡ list_length (take (list_length out.old / width) free.entry) }
-    ensures addresses { out.new ≡ begun_with (addresses_of (take (list_length out.old / width) free.entry)) out.old }
+    ensures addresses { out.new ≡ begun_with (joined_addresses (take (list_length out.old / width) free.entry)) out.old }
 {
     let room = out.len() / width;
     for index in 0..room {
@@ -67,7 +67,7 @@ impl NumberRoutes {
         ensures written { IfSome result (λ count. (free : List Block)
             × AreAvailable self.now (network_in address.now length) part_length after.now free
             × (count ≡ list_length (take (list_length addresses.old / list_length address.now) free))
-            × (addresses.new ≡ begun_with (addresses_of (take (list_length addresses.old / list_length address.now) free)) addresses.old)) }
+            × (addresses.new ≡ begun_with (joined_addresses (take (list_length addresses.old / list_length address.now) free)) addresses.old)) }
         ensures is_network { IfSome result (λ count. is_network address.now length ≡ true) }
         ensures is_place { IfSome result (λ count. is_place (network_in address.now length) part_length after.now ≡ true) }
         ensures refusal_due { IfNone result

@@ -1,11 +1,11 @@
 //! Route tables with 64-bit values.
-ghost use Rattle.std.specs.Prelude.{◌≡◌, ◌≢◌, ◌*◌, ◌/◌, ◌<◌, ◌==◌, ℕ, true, false, [], None, IfErr, IfNone, IfOk, IfSome, MatchOption, Err, Ok, OnErr, OnOk, drop, get_or, length as list_length, min, take};
+ghost use Rattle.std.specs.Prelude.{Err, IfErr, IfNone, IfOk, IfSome, MatchOption, None, Ok, OnErr, OnOk, [], drop, false, get_or, length as list_length, min, take, true, ℕ, ◌*◌, ◌/◌, ◌<◌, ◌==◌, ◌≡◌, ◌≢◌};
 ghost use Rattle.std.specs.Option.{option_map};
 ghost use Rattle.art_routes.specs.declared.address.Address.{Address};
 ghost use Rattle.art_routes.specs.Aggregates.{IsAggregated, MatchAlike};
 ghost use Rattle.art_routes.specs.Networks.{address_of, network_around};
 ghost use Rattle.art_routes.specs.Removing.{without_covered};
-ghost use Rattle.art_routes.specs.Tables.{IsLongest, IsParent, NoneAround, NoneContains, covered as covered_routes, covering as covering_routes, put_route, value_of, without_route};
+ghost use Rattle.art_routes.specs.Tables.{IsLongest, IsParent, NoneAround, NoneContains, covered as covered_routes, covering as covering_routes, put_route, route_value, without_route};
 ghost use Rattle.art_c_maps.specs.Entries.{begun_with, first_of, values_of};
 ghost use Rattle.art_c_routes.specs.Addresses.{address_in, is_address, is_network, is_width, network_in};
 ghost use Rattle.art_c_routes.specs.Found.{IsMatched, address_written, found_parts, lengths_of, routes_from};
@@ -101,11 +101,11 @@ impl NumberRoutes {
     /// Adds a route. Where there is one to the same network, its value is replaced and returned. Memory is
     /// refused only where there is none. After a refusal the routes are unchanged.
     pub fn insert(&mut self, address: &[u8], length: u8, value: u64) -> Result<Option<u64>, Refusal>
-        ensures replaced { IfOk result (λ before. before ≡ value_of self.old (network_in address.now length)) }
+        ensures replaced { IfOk result (λ before. before ≡ route_value self.old (network_in address.now length)) }
         ensures routes { OnOk result (self.new ≡ put_route self.old (network_in address.now length) value) }
         ensures is_network { OnOk result (is_network address.now length ≡ true) }
         ensures refusal_due { IfErr result (IsRouteRefused address.now length) }
-        ensures no_route { result ≡ Err Refusal.OutOfMemory → value_of self.old (network_in address.now length) ≡ None }
+        ensures no_route { result ≡ Err Refusal.OutOfMemory → route_value self.old (network_in address.now length) ≡ None }
         ensures same_routes { OnErr result (self.new ≡ self.old) }
     {
         let Some(network) = network_from(address, length) else {
@@ -125,12 +125,12 @@ impl NumberRoutes {
         length: u8,
         value: u64,
     ) -> Result<Option<u64>, Refusal>
-        ensures found { IfOk result (λ found. found ≡ value_of self.old (network_in address.now length)) }
+        ensures found { IfOk result (λ found. found ≡ route_value self.old (network_in address.now length)) }
         ensures added { result ≡ Ok None → self.new ≡ put_route self.old (network_in address.now length) value }
         ensures kept { result ≢ Ok None → self.new ≡ self.old }
         ensures is_network { OnOk result (is_network address.now length ≡ true) }
         ensures refusal_due { IfErr result (IsRouteRefused address.now length) }
-        ensures no_route { result ≡ Err Refusal.OutOfMemory → value_of self.old (network_in address.now length) ≡ None }
+        ensures no_route { result ≡ Err Refusal.OutOfMemory → route_value self.old (network_in address.now length) ≡ None }
     {
         let Some(network) = network_from(address, length) else {
             return Err(Refusal::BadNetwork);
@@ -146,7 +146,7 @@ impl NumberRoutes {
 
     /// The value of the route to this very network, or None where there is none. Takes no memory.
     pub fn get(&self, address: &[u8], length: u8) -> Result<Option<u64>, Refusal>
-        ensures found { IfOk result (λ value. value ≡ value_of self.now (network_in address.now length)) }
+        ensures found { IfOk result (λ value. value ≡ route_value self.now (network_in address.now length)) }
         ensures is_network { OnOk result (is_network address.now length ≡ true) }
         ensures refusal_due { OnErr result (is_network address.now length ≡ false) }
     {
@@ -159,11 +159,11 @@ impl NumberRoutes {
     /// Removes the route to this very network, if there is one, and returns its value. Memory is refused only
     /// where there is one. After a refusal the routes are unchanged.
     pub fn remove(&mut self, address: &[u8], length: u8) -> Result<Option<u64>, Refusal>
-        ensures removed { IfOk result (λ value. value ≡ value_of self.old (network_in address.now length)) }
+        ensures removed { IfOk result (λ value. value ≡ route_value self.old (network_in address.now length)) }
         ensures routes { OnOk result (self.new ≡ without_route self.old (network_in address.now length)) }
         ensures is_network { OnOk result (is_network address.now length ≡ true) }
         ensures refusal_due { IfErr result (IsRouteRefused address.now length) }
-        ensures refused { result ≡ Err Refusal.OutOfMemory → value_of self.old (network_in address.now length) ≢ None }
+        ensures refused { result ≡ Err Refusal.OutOfMemory → route_value self.old (network_in address.now length) ≢ None }
         ensures same_routes { OnErr result (self.new ≡ self.old) }
     {
         let Some(network) = network_from(address, length) else {

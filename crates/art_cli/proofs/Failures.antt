@@ -12,7 +12,7 @@ use Rattle.art_cli.specs.declared.failure.LineFault.{LineFault}
 use Rattle.art_cli.specs.declared.request.Request.{Request}
 use Rattle.art_cli.specs.declared.request.Request.TheVariants.{Replay, Find0, Find2, Find16}
 use Rattle.art_cli.specs.Command.{SayReplayLine, IsFaultOf}
-use Rattle.art_cli.specs.Failure.{fault_text}
+use Rattle.art_cli.specs.Failure.{line_fault_text}
 use Rattle.art_cli.specs.Program.{IsReplayFailure, IsFailure, Tells}
 use Rattle.art_cli.specs.Request.{AskFor}
 use Rattle.art_cli.specs.Words.{words_of}
@@ -28,7 +28,7 @@ nothing_printed IsOutput None known = tt
 nothing_printed IsOutput (Some given) known = inl (keeps_itself known)
 
 -- the text of a failure is known, since that of its fault is
-pub text_told : (failure : Failure LineFault) (old new : Option (List ℕ)) → IfSome (shown_failure (λ fault. Some (fault_text fault)) failure) (λ text. AppendsBeginning old new (line text)) → AppendsBeginning old new (line (failure_text fault_text failure))
+pub text_told : (failure : Failure LineFault) (old new : Option (List ℕ)) → IfSome (shown_failure (λ fault. Some (line_fault_text fault)) failure) (λ text. AppendsBeginning old new (line text)) → AppendsBeginning old new (line (failure_text line_fault_text failure))
 text_told (BadLine bad) old new wrote = wrote
 text_told OutOfMemory old new wrote = wrote
 text_told Device old new wrote = wrote
@@ -46,7 +46,7 @@ may_fail Find0 input = tt
 may_fail Find2 input = tt
 may_fail Find16 input = tt
 
-pub device_told : {A : Type 0} (words : List (String A)) (request : Request) (input : Option (List ℕ)) (status : ℕ) (old new : Option (List ℕ)) → AskFor words request → status ≡ status_of {F = LineFault} Device → IfSome (shown_failure (λ fault. Some (fault_text fault)) Device) (λ text. AppendsBeginning old new (line text)) → Tells words input status old new
+pub device_told : {A : Type 0} (words : List (String A)) (request : Request) (input : Option (List ℕ)) (status : ℕ) (old new : Option (List ℕ)) → AskFor words request → status ≡ status_of {F = LineFault} Device → IfSome (shown_failure (λ fault. Some (line_fault_text fault)) Device) (λ text. AppendsBeginning old new (line text)) → Tells words input status old new
 device_told words request input status old new asked is wrote =
     inr (Device, sym is, (request, asked, at_input input), text_told Device old new wrote)
   where

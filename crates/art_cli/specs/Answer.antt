@@ -46,8 +46,8 @@ module _ {K : Type 0} {P : ℕ} where
 
   -- without entries nothing is found, and no node is visited; else it is the result of the scan,
   -- and one node visit for each pointer that the query meets
-  abbrev pub IsAnswer : Entries → List ℕ → Option (ℕ × TreePath K ℕ P) → ℕ → Type 0
-  IsAnswer entries query answer reads =
+  abbrev pub IsFindAnswer : Entries → List ℕ → Option (ℕ × TreePath K ℕ P) → ℕ → Type 0
+  IsFindAnswer entries query answer reads =
       (((text : List ℕ) → entries.number_of text ≡ None) × (answer ≡ None) × (reads ≡ 0))
       ⊎ ((tree : Tree (OpaqueNodePtr K ℕ P)) × IsWellFormed tree × HasTheTexts entries tree × IsScanned entries tree query answer × (reads ≡ length (met P tree query)))
 
@@ -61,7 +61,7 @@ module _ (K : Type 0) (P : ℕ) where
   IsReply entries (Insert key) text = text ≡ []
   IsReply entries (Remove key) text = text ≡ line (removal_text (entries.number_of key))
   IsReply entries (Find key) text =
-      (answer : Option (ℕ × TreePath K ℕ P)) × (reads : ℕ) × IsAnswer entries key answer reads × (text ≡ line (answer_text answer reads))
+      (answer : Option (ℕ × TreePath K ℕ P)) × (reads : ℕ) × IsFindAnswer entries key answer reads × (text ≡ line (answer_text answer reads))
 
   -- what commands print, one after another
   abbrev pub AreReplies : Entries → List (TreeCommand (List ℕ)) → List ℕ → Type 0

@@ -11,12 +11,12 @@ abbrev pub usage_text : List ℕ
 usage_text = codes "usage: artnodes replay | artnodes find 0|2|16"
 
 -- the fault of a line
-abbrev pub fault_text : LineFault → List ℕ
-fault_text UnknownCommand = codes "unknown command"
-fault_text WrongNumberOfWords = codes "wrong number of words"
-fault_text BadNumber = codes "bad number"
-fault_text KeyTooLong = codes "key too long"
-fault_text PrefixOfOther = codes "one key is a front of the other"
+abbrev pub line_fault_text : LineFault → List ℕ
+line_fault_text UnknownCommand = codes "unknown command"
+line_fault_text WrongNumberOfWords = codes "wrong number of words"
+line_fault_text BadNumber = codes "bad number"
+line_fault_text KeyTooLong = codes "key too long"
+line_fault_text PrefixOfOther = codes "one key is a front of the other"
 
 -- the line of this number, from 1, has this fault
 abbrev pub failure_at : ℕ → LineFault → Failure LineFault

@@ -13,7 +13,7 @@ use Rattle.art_cli.specs.declared.failure.LineFault.{LineFault}
 use Rattle.art_cli.specs.declared.failure.LineFault.TheVariants.{UnknownCommand, KeyTooLong, PrefixOfOther}
 use Rattle.art_cli.specs.declared.request.Request.{Request}
 use Rattle.art_cli.specs.declared.request.Request.TheVariants.{Replay, Find0, Find2, Find16}
-use Rattle.art_cli.specs.Failure.{usage_text, fault_text, failure_at}
+use Rattle.art_cli.specs.Failure.{usage_text, line_fault_text, failure_at}
 use Rattle.art_cli.specs.Request.{AskFor, AreTaken}
 use Rattle.art_cli.specs.Words.{words_of}
 use Rattle.art_cli.specs.Command.{SayReplayLine, IsFaultOf}
@@ -108,4 +108,4 @@ module _ {A : Type 0} where
   Tells words input status old new =
       ((¬ AreTaken words) × (status ≡ 2) × AppendsBeginning old new (line usage_text))
       ⊎ ((failure : Failure LineFault) × (status_of failure ≡ status) × IsRunFailure words input failure
-      × AppendsBeginning old new (line (failure_text fault_text failure)))
+      × AppendsBeginning old new (line (failure_text line_fault_text failure)))

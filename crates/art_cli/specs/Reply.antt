@@ -12,9 +12,9 @@ use Rattle.art_nodes.specs.declared.ChildReply.{ChildReply}
 use Rattle.art_nodes.specs.declared.ChildReply.TheVariants.{Child, Pair, Pairs, InvalidBounds}
 
 -- the key where the kind is a leaf's
-abbrev pub key_text : NodeType → ℕ → List ℕ
-key_text Leaf key = decimal key
-key_text _ key = codes "none"
+abbrev pub leaf_key_text : NodeType → ℕ → List ℕ
+leaf_key_text Leaf key = decimal key
+leaf_key_text _ key = codes "none"
 
 -- the name of a kind of node
 abbrev pub kind_text : NodeType → List ℕ
@@ -31,7 +31,7 @@ smallest_kind_text count = kind_text (kind_for count)
 module _ {K V : Type 0} {P : ℕ} where
   -- a child is shown by the key of its leaf
   abbrev pub child_text : OpaqueNodePtr K V P → List ℕ
-  child_text child = key_text (node_kind child) (opaque_key child)
+  child_text child = leaf_key_text (node_kind child) (opaque_key child)
 
   -- one of the pairs of a range
   abbrev pub pair_text : ℕ × OpaqueNodePtr K V P → List ℕ

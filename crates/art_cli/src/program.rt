@@ -5,7 +5,7 @@ ghost use Rattle.program_lines.specs.declared.failure.Failure.TheVariants.{Devic
 ghost use Rattle.program_lines.specs.Failures.{status_of, failure_text};
 ghost use Rattle.program_lines.specs.Lines.{line};
 ghost use Rattle.program_lines.specs.Programs.{Prints, PrintsBeginning, AppendsBeginning};
-ghost use Rattle.art_cli.specs.Failure.{fault_text};
+ghost use Rattle.art_cli.specs.Failure.{line_fault_text};
 ghost use Rattle.art_cli.specs.Request.{AreTaken};
 ghost use Rattle.art_cli.specs.Program.{IsOutput, IsFailure, IsAsked, IsBad, Tells};
 
@@ -61,7 +61,7 @@ pub fn run<R: Read, W: Write, E: Write>(
     ensures refused_memory_prints_nothing { result ≡ 1 →
         Keeps (W.contents output.old) (W.contents output.new)
         ⊎ AppendsBeginning (E.contents errors.old) (E.contents errors.new)
-        (line (failure_text fault_text Device)) }
+        (line (failure_text line_fault_text Device)) }
     ensures success_is_quiet { result ≡ 0 →
         Keeps (E.contents errors.old) (E.contents errors.new) }
 

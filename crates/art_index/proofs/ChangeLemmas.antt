@@ -24,13 +24,13 @@ use Rattle.art_steps.specs.Leaves.{KeepsOtherLeaves}
 use Rattle.art_steps.specs.Removal.{IsLeft}
 use Rattle.art_tree.specs.Entries.{entries_of, put_entry, without_text}
 use Rattle.art_steps.specs.Refusals.{texts_of}
-use Rattle.art_index.specs.Places.{AllAbove, AllBelow, IsPlaced, leaf_entry}
+use Rattle.art_index.specs.Places.{AllTextsAbove, AllTextsBelow, IsPlaced, leaf_entry}
 use Rattle.art_index.proofs.BranchLemmas.{all-unmapped}
 use Rattle.art_index.proofs.PlaceLemmas.{parts-same, slot-of, some-mapped}
 
 module _ {K V : Type 0} (text : K → List ℕ) where
   -- an entry is put between the entries below it and those above it
-  pub put-between : (left right : List (K × V)) (entry : K × V) → AllBelow text (text entry.0) left → AllAbove text (text entry.0) right → put_entry text (left ++ right) entry ≡ left ++ entry ∷ right
+  pub put-between : (left right : List (K × V)) (entry : K × V) → AllTextsBelow text (text entry.0) left → AllTextsAbove text (text entry.0) right → put_entry text (left ++ right) entry ≡ left ++ entry ∷ right
   put-between [] [] entry below above = refl
   put-between [] (other ∷ right) entry below above =
       let less : text_order (text entry.0) (text other.0) ≡ Less = greater_turned (text other.0) (text entry.0) (All-head (λ o. text_order (text o.0) (text entry.0) ≡ Greater) other right above) in
@@ -76,7 +76,7 @@ entry-read (Some leaf) key value entry at_key at_value at_entry =
 
 module _ {K V : Type 0} {P : ℕ} (text : K → List ℕ) (old new : Art (NodeArena K V P) (OpaqueNodePtr K V P)) where
   -- the list after a page is added
-  pub page-added : (anchor : K) (page : V) → IsEntry text new.arena (anchor, page) → SameOtherEntries text old.arena new.arena (text anchor) → (left right : List (K × V)) → entries_of text old.arena ≡ left ++ right → AllBelow text (text anchor) left → AllAbove text (text anchor) right → entries_of text new.arena ≡ left ++ (anchor, page) ∷ right
+  pub page-added : (anchor : K) (page : V) → IsEntry text new.arena (anchor, page) → SameOtherEntries text old.arena new.arena (text anchor) → (left right : List (K × V)) → entries_of text old.arena ≡ left ++ right → AllTextsBelow text (text anchor) left → AllTextsAbove text (text anchor) right → entries_of text new.arena ≡ left ++ (anchor, page) ∷ right
   page-added anchor page is others left right list below above =
       list-put text old.arena new.arena (anchor, page) is others ∙ ap (λ l. put_entry text l (anchor, page)) list ∙ put-between text left right (anchor, page) below above
 

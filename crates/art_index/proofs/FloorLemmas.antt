@@ -19,7 +19,7 @@ use Rattle.art_steps.specs.Art.{IsAlone}
 use Rattle.art_steps.specs.Refusals.{texts_of}
 use Rattle.art_search.specs.Search.{leaf_pointer}
 use Rattle.art_index.specs.Descent.{AreLow, IsBeside, IsUpTo}
-use Rattle.art_index.specs.Places.{AllAbove, IsFloorFound, IsPlaced, IsPrevious}
+use Rattle.art_index.specs.Places.{AllTextsAbove, IsFloorFound, IsPlaced, IsPrevious}
 use Rattle.art_index.proofs.BranchLemmas.{all-unmapped}
 use Rattle.art_index.proofs.LinkLemmas.{previous-of}
 use Rattle.art_index.proofs.PlaceLemmas.{among}
@@ -41,7 +41,7 @@ module _ {K V : Type 0} (text : K → List ℕ) (x : List ℕ) where
       all-unmapped (λ y. is_le (text_order y x) ≡ low) (λ entry. text entry.0) entries
       (subst (All (λ y. is_le (text_order y x) ≡ low)) (sym same) (All-map (λ y. is_le (text_order y x) ≡ low) (λ leaf. leaf.1) pairs lie))
 
-  all-above : (entries : List (K × V)) → All (λ entry. is_le (text_order (text entry.0) x) ≡ false) entries → AllAbove text x entries
+  all-above : (entries : List (K × V)) → All (λ entry. is_le (text_order (text entry.0) x) ≡ false) entries → AllTextsAbove text x entries
   all-above entries lie = All-weaker (λ entry. is_le (text_order (text entry.0) x) ≡ false) (λ entry. text_order (text entry.0) x ≡ Greater) (λ entry is. above-is (text_order (text entry.0) x) is) entries lie
 
 module _ {K V : Type 0} {P : ℕ} {text : K → List ℕ} {arena : NodeArena K V P} {root : OpaqueNodePtr K V P} {tree : Tree (OpaqueNodePtr K V P)} (alone : IsAlone text arena root tree) (x : List ℕ) (at : OpaqueNodePtr K V P) (leaf : LeafPtr K V P) where
@@ -75,15 +75,15 @@ module _ {K V : Type 0} {P : ℕ} {text : K → List ℕ} {arena : NodeArena K V
       (entries-lie text x true own.place.left part.left own.left_is part.before)
       (all-above text x (own.place.entry ∷ own.place.right) (entries-lie text x false (own.place.entry ∷ own.place.right) (here ∷ (others ++ part.right)) rest after))
     where
-      by_found : (here : IsPlaced text arena leaf) (found : Option (LeafPtr K V P)) → IsPrevious text arena here found → All (λ entry. is_le (text_order (text entry.0) x) ≡ true) here.left → AllAbove text x (here.entry ∷ here.right) → IsFloorFound text arena x found
-      by_found here None none before after = subst (AllAbove text x) (sym (here.list ∙ ap (λ l. l ++ here.entry ∷ here.right) none)) after
+      by_found : (here : IsPlaced text arena leaf) (found : Option (LeafPtr K V P)) → IsPrevious text arena here found → All (λ entry. is_le (text_order (text entry.0) x) ≡ true) here.left → AllTextsAbove text x (here.entry ∷ here.right) → IsFloorFound text arena x found
+      by_found here None none before after = subst (AllTextsAbove text x) (sym (here.list ∙ ap (λ l. l ++ here.entry ∷ here.right) none)) after
       by_found here (Some previous) (there, left_is, right_is) before after =
           let Low : K × V → Type 0 = λ entry. is_le (text_order (text entry.0) x) ≡ true in
           let low = All-head Low there.entry [] (all_right Low there.left (there.entry ∷ []) (subst (All Low) left_is before)) in
           record {
             place = there;
             low = not-above (text_order (text there.entry.0) x) low;
-            above = subst (AllAbove text x) (sym right_is) after;
+            above = subst (AllTextsAbove text x) (sym right_is) after;
           }
 
 -- the leaf before the end of the node's leaves at which the text is

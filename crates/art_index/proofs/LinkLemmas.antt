@@ -12,7 +12,7 @@ use Rattle.art_arena.proofs.StandingLaws.{leaf_place}
 use Rattle.art_arena.proofs.TreeLaws.{first-member, next-member, previous-member}
 use Rattle.art_arena.specs.Arena.{LeafPtr, NodeArena}
 use Rattle.art_arena.specs.Ends.{IsAtEnd}
-use Rattle.art_arena.specs.Links.{Spells, next_at, previous_at}
+use Rattle.art_arena.specs.Links.{IsLinkedList, next_at, previous_at}
 use Rattle.art_arena.specs.Trees.{Tree, leaves}
 use Rattle.art_arena.specs.declared.ends.End.{End}
 use Rattle.art_arena.specs.declared.ends.End.TheVariants.{First, Last}
@@ -46,8 +46,8 @@ module _ {K V : Type 0} {P : ℕ} {text : K → List ℕ} {arena : NodeArena K V
       let (node, there, has) = leaf-held-in text arena tree alone.is_tree.stands q z inside in
       sym (leaf_place arena q node there) ∙ ap (opaque_pointer {K = K} {V = V} {P = P} kinds.Leaf) (sym same)
 
-  spelled : (front back : List (OpaqueNodePtr K V P × List ℕ)) → leaves tree ≡ front ++ back → Spells arena (keys_of front ++ keys_of back)
-  spelled front back is = subst (Spells arena) (ap keys_of is ∙ keys-append front back) alone.spelled
+  is_linked : (front back : List (OpaqueNodePtr K V P × List ℕ)) → leaves tree ≡ front ++ back → IsLinkedList arena (keys_of front ++ keys_of back)
+  is_linked front back is = subst (IsLinkedList arena) (ap keys_of is ∙ keys-append front back) alone.is_linked
 
   among-long : (leaf : LeafPtr K V P) (front back : List (OpaqueNodePtr K V P × List ℕ)) (y : List ℕ) (own : IsAmong alone leaf front y back) → length own.place.left ≡ length front
   among-long leaf front back y own = sym (length-map own.place.left (λ entry. text entry.0)) ∙ ap length own.left_is ∙ length-map front (λ leaf. leaf.1)
@@ -76,12 +76,12 @@ module _ {K V : Type 0} {P : ℕ} {text : K → List ℕ} {arena : NodeArena K V
     previous-among : (front back : List (OpaqueNodePtr K V P × List ℕ)) (y : List ℕ) → leaves tree ≡ front ++ (leaf_pointer leaf, y) ∷ back → length front ≡ length here.left → (found : Option (LeafPtr K V P)) → option_map slab_key found ≡ previous_at arena (slab_key leaf) → IsPrevious text arena here found
     previous-among front back y is long found at = elim (snoc front) [
       | inl none ↦
-          let unnamed : option_map slab_key found ≡ None = at ∙ first-member arena (keys_of back) (slab_key leaf) (subst (λ f. Spells arena (keys_of f ++ keys_of ((leaf_pointer leaf, y) ∷ back))) none (spelled front ((leaf_pointer leaf, y) ∷ back) is)) in
+          let unnamed : option_map slab_key found ≡ None = at ∙ first-member arena (keys_of back) (slab_key leaf) (subst (λ f. IsLinkedList arena (keys_of f ++ keys_of ((leaf_pointer leaf, y) ∷ back))) none (is_linked front ((leaf_pointer leaf, y) ∷ back) is)) in
           first-of found unnamed (nil_from_length here.left (omega (arith, long, ap length none)))
       | inr (ys, (q, z), front_is) ↦
           let later = (leaf_pointer leaf, y) ∷ back in
           let split : leaves tree ≡ ys ++ (q, z) ∷ later = is ∙ ap (λ f. f ++ later) front_is ∙ append_assoc ys ((q, z) ∷ []) later in
-          let some : option_map slab_key found ≡ Some (opaque_key q) = at ∙ previous-member arena (keys_of ys) (keys_of back) (opaque_key q) (slab_key leaf) (spelled ys ((q, z) ∷ later) split) in
+          let some : option_map slab_key found ≡ Some (opaque_key q) = at ∙ previous-member arena (keys_of ys) (keys_of back) (opaque_key q) (slab_key leaf) (is_linked ys ((q, z) ∷ later) split) in
           before-of found ys z q some split (omega (arith, long, ap length front_is, length-append ys ((q, z) ∷ [])))
     ]
       where
@@ -105,7 +105,7 @@ module _ {K V : Type 0} {P : ℕ} {text : K → List ℕ} {arena : NodeArena K V
     next-of found found_is =
         let at = around-place alone leaf here in
         next-among at.front at.back at.y at.is (front-long alone leaf here) found
-        (found_is ∙ next-member arena (keys_of at.front) (keys_of at.back) (slab_key leaf) (spelled at.front ((leaf_pointer leaf, at.y) ∷ at.back) at.is))
+        (found_is ∙ next-member arena (keys_of at.front) (keys_of at.back) (slab_key leaf) (is_linked at.front ((leaf_pointer leaf, at.y) ∷ at.back) at.is))
 
     pub previous-of : (found : Option (LeafPtr K V P)) → option_map slab_key found ≡ previous_at arena (slab_key leaf) → IsPrevious text arena here found
     previous-of found found_is =

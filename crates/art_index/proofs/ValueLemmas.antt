@@ -7,7 +7,7 @@ use Rattle.art_nodes.specs.Leaf.{leaf_key, leaf_value, with_value}
 use Rattle.art_nodes.specs.Pointers.{slab_key}
 use Rattle.art_nodes.specs.declared.leaf_node.LeafNode.{LeafNode}
 use Rattle.art_nodes.specs.declared.pointers.OpaqueNodePtr.{OpaqueNodePtr}
-use Rattle.art_arena.proofs.TreeLaws.{spells-exchanged, stands-exchanged}
+use Rattle.art_arena.proofs.TreeLaws.{list-exchanged, stands-exchanged}
 use Rattle.art_arena.specs.Arena.{Changes, LeafPtr, NodeArena, HeldLeaf, Nothing, held, held_leaf}
 use Rattle.art_arena.specs.Links.{leaf_at}
 use Rattle.art_arena.specs.Trees.{Tree, leaves, texts}
@@ -35,7 +35,7 @@ module _ {K V : Type 0} {P : ℕ} (text : K → List ℕ) (old new : NodeArena K
       is_tree = record { at_root = alone.is_tree.at_root; stands = stands-exchanged text old new (slab_key leaf) node (with_value node value) at changes tree refl alone.is_tree.stands; sound = alone.is_tree.sound };
       smallest_kinds = alone.smallest_kinds;
       short = alone.short;
-      spelled = spells-exchanged old new (slab_key leaf) node (with_value node value) at changes refl refl _ alone.spelled;
+      is_linked = list-exchanged old new (slab_key leaf) node (with_value node value) at changes refl refl _ alone.is_linked;
       no_others = λ pointer is_held. alone.no_others pointer (λ none. is_held (changes.others pointer (λ same. let wrong : HeldLeaf node ≡ Nothing = sym there ∙ ap (held old) (sym same) ∙ none in absurd (cc)) ∙ none));
     }
 

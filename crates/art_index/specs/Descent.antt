@@ -18,11 +18,7 @@ use Rattle.art_arena.specs.declared.ends.End.{End}
 use Rattle.art_arena.specs.declared.ends.End.TheVariants.{First, Last}
 use Rattle.art_index.specs.declared.search.Step.{Step}
 use Rattle.art_index.specs.declared.search.Step.TheVariants.{Down, Beside}
-
--- the end is the last
-abbrev pub is_last : End → Bool
-is_last First = false
-is_last Last = true
+use Rattle.art_steps.specs.Sides.{is_last}
 
 -- a path of so many bytes leads to these, and the text begins with it
 abbrev pub OnWay : List ℕ → ℕ → (List ℕ → Type 0) → Type 0

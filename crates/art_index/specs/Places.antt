@@ -16,11 +16,11 @@ leaf_entry leaf = (leaf_key leaf, leaf_value leaf)
 
 module _ {K V : Type 0} (text : K → List ℕ) where
   -- each of these entries is below a text, or above it
-  abbrev pub AllBelow : List ℕ → List (K × V) → Type 0
-  AllBelow x entries = All (λ entry. text_order (text entry.0) x ≡ Less) entries
+  abbrev pub AllTextsBelow : List ℕ → List (K × V) → Type 0
+  AllTextsBelow x entries = All (λ entry. text_order (text entry.0) x ≡ Less) entries
 
-  abbrev pub AllAbove : List ℕ → List (K × V) → Type 0
-  AllAbove x entries = All (λ entry. text_order (text entry.0) x ≡ Greater) entries
+  abbrev pub AllTextsAbove : List ℕ → List (K × V) → Type 0
+  AllTextsAbove x entries = All (λ entry. text_order (text entry.0) x ≡ Greater) entries
 
 module _ {K V : Type 0} {P : ℕ} (text : K → List ℕ) (arena : NodeArena K V P) where
   -- the leaf holds this entry of the list of a tree's entries, with these before it and these after it
@@ -35,11 +35,11 @@ module _ {K V : Type 0} {P : ℕ} (text : K → List ℕ) (arena : NodeArena K V
   pub record IsFloor (x : List ℕ) (leaf : LeafPtr K V P) : Type 0 where
     pub place : IsPlaced leaf
     pub low : text_order (text place.entry.0) x ≢ Greater
-    pub above : AllAbove text x place.right
+    pub above : AllTextsAbove text x place.right
 
   -- the same of the leaf that was found; none where all entries are above the text
   abbrev pub IsFloorFound : List ℕ → Option (LeafPtr K V P) → Type 0
-  IsFloorFound x None = AllAbove text x (entries_of text arena)
+  IsFloorFound x None = AllTextsAbove text x (entries_of text arena)
   IsFloorFound x (Some leaf) = IsFloor x leaf
 
   -- the leaf with the first entry, or none where there is no entry

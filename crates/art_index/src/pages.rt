@@ -9,7 +9,7 @@ ghost use Rattle.art_steps.specs.Insertion.{IsRefused};
 ghost use Rattle.art_steps.specs.Room.{HasEntryRoom};
 ghost use Rattle.art_steps.specs.declared.faults.InsertRefusal.TheVariants.{OutOfMemory};
 ghost use Rattle.art_tree.specs.TreeLending.{LendsLeafValue};
-ghost use Rattle.art_index.specs.Places.{AllAbove, AllBelow, IsFirst, IsLast, IsNext, IsPlaced, IsPrevious};
+ghost use Rattle.art_index.specs.Places.{AllTextsAbove, AllTextsBelow, IsFirst, IsLast, IsNext, IsPlaced, IsPrevious};
 
 use art_arena::{End, LeafPtr, end_leaf};
 use art_bytes::AsBytes;
@@ -85,7 +85,7 @@ pub fn add_page<A: AsBytes + Drop, V: Drop, const PREFIX_LEN: usize>(
 ) -> Result<(), InsertFault<A, V>>
     ensures added { IfOk result (λ _. (left right : List (A × V)) →
         entries_of A.text tree.old.arena ≡ left ++ right →
-        AllBelow A.text (A.text anchor) left → AllAbove A.text (A.text anchor) right →
+        AllTextsBelow A.text (A.text anchor) left → AllTextsAbove A.text (A.text anchor) right →
         entries_of A.text tree.new.arena ≡ left ++ (anchor, page) ∷ right) }
     ensures refusal_due { IfErr result
         (λ fault. IsRefused A.text tree.old.arena (A.text anchor) fault.refusal) }

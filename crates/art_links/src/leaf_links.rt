@@ -5,7 +5,7 @@ ghost use Rattle.std.specs.declared.cmp.Ordering.TheVariants.{Less};
 ghost use Rattle.art_bytes.specs.Text.{text_order};
 ghost use Rattle.art_nodes.specs.Pointers.{slab_key};
 ghost use Rattle.art_arena.specs.Arena.{SameRoom};
-ghost use Rattle.art_arena.specs.Links.{Spells, HoldsLeaf, IsUnlinked, IsKnit, SameButLinks, Joins, StandsBetween, TakesPlace, previous_at, next_at, text_at};
+ghost use Rattle.art_arena.specs.Links.{IsLinkedList, HoldsLeaf, IsUnlinked, IsKnit, SameButLinks, Joins, StandsBetween, TakesPlace, previous_at, next_at, text_at};
 ghost use Rattle.art_arena.specs.Relinking.{SetsBoth, SetsNext, SetsPrevious};
 
 use art_arena::{LeafPtr, NodeArena};
@@ -49,9 +49,9 @@ pub trait LeafLinks<K: AsBytes, V, const PREFIX_LEN: usize>: Sized {
             (text_at K.text arena.old (slab_key this)) ≡ Less }
         ensures placed { StandsBetween arena.old arena.new (Some (slab_key sibling)) (slab_key this)
             (next_at arena.old (slab_key sibling)) }
-        ensures spelled { (before after : List _) →
-            Spells arena.old (before ++ slab_key sibling ∷ after) →
-            Spells arena.new (before ++ slab_key sibling ∷ slab_key this ∷ after) }
+        ensures linked { (before after : List _) →
+            IsLinkedList arena.old (before ++ slab_key sibling ∷ after) →
+            IsLinkedList arena.new (before ++ slab_key sibling ∷ slab_key this ∷ after) }
         ensures contents { SameButLinks arena.old arena.new }
         ensures room { SameRoom arena.old arena.new };
 
@@ -72,9 +72,9 @@ pub trait LeafLinks<K: AsBytes, V, const PREFIX_LEN: usize>: Sized {
             (text_at K.text arena.old (slab_key sibling)) ≡ Less }
         ensures placed { StandsBetween arena.old arena.new
             (previous_at arena.old (slab_key sibling)) (slab_key this) (Some (slab_key sibling)) }
-        ensures spelled { (before after : List _) →
-            Spells arena.old (before ++ slab_key sibling ∷ after) →
-            Spells arena.new (before ++ slab_key this ∷ slab_key sibling ∷ after) }
+        ensures linked { (before after : List _) →
+            IsLinkedList arena.old (before ++ slab_key sibling ∷ after) →
+            IsLinkedList arena.new (before ++ slab_key this ∷ slab_key sibling ∷ after) }
         ensures contents { SameButLinks arena.old arena.new }
         ensures room { SameRoom arena.old arena.new };
 
@@ -97,9 +97,9 @@ pub trait LeafLinks<K: AsBytes, V, const PREFIX_LEN: usize>: Sized {
         requires same_text { force ≡ false →
             text_at K.text arena.old (slab_key this) ≡ text_at K.text arena.old (slab_key old) }
         ensures replaced { TakesPlace arena.old arena.new (slab_key old) (slab_key this) }
-        ensures spelled { (before after : List _) →
-            Spells arena.old (before ++ slab_key old ∷ after) →
-            Spells arena.new (before ++ slab_key this ∷ after) }
+        ensures linked { (before after : List _) →
+            IsLinkedList arena.old (before ++ slab_key old ∷ after) →
+            IsLinkedList arena.new (before ++ slab_key this ∷ after) }
         ensures contents { SameButLinks arena.old arena.new }
         ensures room { SameRoom arena.old arena.new };
 
@@ -108,9 +108,9 @@ pub trait LeafLinks<K: AsBytes, V, const PREFIX_LEN: usize>: Sized {
         requires { IsKnit arena.old (slab_key this) }
         ensures removed { Joins arena.old arena.new (previous_at arena.old (slab_key this))
             (next_at arena.old (slab_key this)) }
-        ensures spelled { (before after : List _) →
-            Spells arena.old (before ++ slab_key this ∷ after) →
-            Spells arena.new (before ++ after) }
+        ensures linked { (before after : List _) →
+            IsLinkedList arena.old (before ++ slab_key this ∷ after) →
+            IsLinkedList arena.new (before ++ after) }
         ensures own_previous { previous_at arena.new (slab_key this)
             ≡ previous_at arena.old (slab_key this) }
         ensures own_next { next_at arena.new (slab_key this) ≡ next_at arena.old (slab_key this) }
@@ -143,9 +143,9 @@ impl<K: AsBytes, V, const PREFIX_LEN: usize> LeafLinks<K, V, PREFIX_LEN>
             (text_at K.text arena.old (slab_key this)) ≡ Less }
         ensures placed { StandsBetween arena.old arena.new (Some (slab_key sibling)) (slab_key this)
             (next_at arena.old (slab_key sibling)) }
-        ensures spelled { (before after : List _) →
-            Spells arena.old (before ++ slab_key sibling ∷ after) →
-            Spells arena.new (before ++ slab_key sibling ∷ slab_key this ∷ after) }
+        ensures linked { (before after : List _) →
+            IsLinkedList arena.old (before ++ slab_key sibling ∷ after) →
+            IsLinkedList arena.new (before ++ slab_key sibling ∷ slab_key this ∷ after) }
         ensures contents { SameButLinks arena.old arena.new }
         ensures room { SameRoom arena.old arena.new }
     {
@@ -166,9 +166,9 @@ impl<K: AsBytes, V, const PREFIX_LEN: usize> LeafLinks<K, V, PREFIX_LEN>
             (text_at K.text arena.old (slab_key sibling)) ≡ Less }
         ensures placed { StandsBetween arena.old arena.new
             (previous_at arena.old (slab_key sibling)) (slab_key this) (Some (slab_key sibling)) }
-        ensures spelled { (before after : List _) →
-            Spells arena.old (before ++ slab_key sibling ∷ after) →
-            Spells arena.new (before ++ slab_key this ∷ slab_key sibling ∷ after) }
+        ensures linked { (before after : List _) →
+            IsLinkedList arena.old (before ++ slab_key sibling ∷ after) →
+            IsLinkedList arena.new (before ++ slab_key this ∷ slab_key sibling ∷ after) }
         ensures contents { SameButLinks arena.old arena.new }
         ensures room { SameRoom arena.old arena.new }
     {
@@ -189,9 +189,9 @@ impl<K: AsBytes, V, const PREFIX_LEN: usize> LeafLinks<K, V, PREFIX_LEN>
         requires same_text { force ≡ false →
             text_at K.text arena.old (slab_key this) ≡ text_at K.text arena.old (slab_key old) }
         ensures replaced { TakesPlace arena.old arena.new (slab_key old) (slab_key this) }
-        ensures spelled { (before after : List _) →
-            Spells arena.old (before ++ slab_key old ∷ after) →
-            Spells arena.new (before ++ slab_key this ∷ after) }
+        ensures linked { (before after : List _) →
+            IsLinkedList arena.old (before ++ slab_key old ∷ after) →
+            IsLinkedList arena.new (before ++ slab_key this ∷ after) }
         ensures contents { SameButLinks arena.old arena.new }
         ensures room { SameRoom arena.old arena.new }
     {
@@ -204,9 +204,9 @@ impl<K: AsBytes, V, const PREFIX_LEN: usize> LeafLinks<K, V, PREFIX_LEN>
         requires { IsKnit arena.old (slab_key this) }
         ensures removed { Joins arena.old arena.new (previous_at arena.old (slab_key this))
             (next_at arena.old (slab_key this)) }
-        ensures spelled { (before after : List _) →
-            Spells arena.old (before ++ slab_key this ∷ after) →
-            Spells arena.new (before ++ after) }
+        ensures linked { (before after : List _) →
+            IsLinkedList arena.old (before ++ slab_key this ∷ after) →
+            IsLinkedList arena.new (before ++ after) }
         ensures own_previous { previous_at arena.new (slab_key this)
             ≡ previous_at arena.old (slab_key this) }
         ensures own_next { next_at arena.new (slab_key this) ≡ next_at arena.old (slab_key this) }

@@ -14,7 +14,7 @@ use Rattle.art_arena.specs.Arena.{LeafPtr, NodeArena}
 use Rattle.art_nodes.specs.Pointers.{slab_key}
 use Rattle.art_tree.specs.Entries.{entries_of}
 use Rattle.art_index.specs.Places.{IsPlaced, IsFirst, IsLast, IsNext, IsPrevious}
-use Rattle.art_pages.specs.Contents.{Contents}
+use Rattle.art_pages.specs.Contents.{PageContents}
 use Rattle.art_pages.specs.Entries.{IsOrdered, IsIndexable, AreKeys, AllAbove, AllBelow, get_by}
 use Rattle.art_pages.proofs.MiddleLemmas.{get_by-middle}
 use Rattle.art_pages.proofs.OrderLemmas.{above-first, ordered-right}
@@ -82,11 +82,11 @@ module _ {K V : Type 0} (order : K → K → Ordering) (is_key : K → Type 0) (
                 (all-middle (λ page. IsEncoding is_key encoded page.0) left page right anchors));
           }
 
-module _ {K V : Type 0} {P : ℕ} (arena : NodeArena (List ℕ) (Contents K V) P) where
+module _ {K V : Type 0} {P : ℕ} (arena : NodeArena (List ℕ) (PageContents K V) P) where
   abbrev Leaf : Type 0
-  Leaf = LeafPtr (List ℕ) (Contents K V) P
+  Leaf = LeafPtr (List ℕ) (PageContents K V) P
 
-  abbrev list : List (List ℕ × Contents K V)
+  abbrev list : List (List ℕ × PageContents K V)
   list = entries_of (λ anchor. anchor) arena
 
   -- how many leaves there are from this one on
@@ -121,29 +121,29 @@ module _ {K V : Type 0} {P : ℕ} (arena : NodeArena (List ℕ) (Contents K V) P
         let at = rank-placed arena leaf here in let long = within in
         let then = rank-placed arena next there in let more = ap length is ∙ length-append here.left (here.entry ∷ []) in omega arith
 
-module _ {K V : Type 0} {P : ℕ} (arena : NodeArena (List ℕ) (Contents K V) P) where
+module _ {K V : Type 0} {P : ℕ} (arena : NodeArena (List ℕ) (PageContents K V) P) where
   -- how many leaves there are up to this one
-  abbrev pub leaves-up-to : Option (LeafPtr (List ℕ) (Contents K V) P) → ℕ
+  abbrev pub leaves-up-to : Option (LeafPtr (List ℕ) (PageContents K V) P) → ℕ
   leaves-up-to None = 0
   leaves-up-to (Some leaf) = suc (rank_at arena (slab_key leaf))
 
   -- no page is behind the last one
-  pub last-behind : (last : Option (LeafPtr (List ℕ) (Contents K V) P)) → IsLast (λ anchor. anchor) arena last → IsEmptyBehind arena last
+  pub last-behind : (last : Option (LeafPtr (List ℕ) (PageContents K V) P)) → IsLast (λ anchor. anchor) arena last → IsEmptyBehind arena last
   last-behind None none = ap (λ l. entries_in (pages l)) none
   last-behind (Some leaf) (here, none) = (here, ap (λ l. entries_in (pages l)) none)
 
-  module _ (leaf : LeafPtr (List ℕ) (Contents K V) P) (here : IsPlaced (λ anchor. anchor) arena leaf) where
+  module _ (leaf : LeafPtr (List ℕ) (PageContents K V) P) (here : IsPlaced (λ anchor. anchor) arena leaf) where
     -- before an empty page
     module _ (none : entries_in (pages here.right) ≡ []) (empty : here.entry.1.entries ≡ []) where
       behind-previous : entries_in (pages (here.entry ∷ here.right)) ≡ []
       behind-previous = ap (λ l. l ++ entries_in (pages here.right)) empty ∙ none
 
-      pub previous-behind : (previous : Option (LeafPtr (List ℕ) (Contents K V) P)) → IsPrevious (λ anchor. anchor) arena here previous → IsEmptyBehind arena previous
+      pub previous-behind : (previous : Option (LeafPtr (List ℕ) (PageContents K V) P)) → IsPrevious (λ anchor. anchor) arena here previous → IsEmptyBehind arena previous
       previous-behind None first = ap (λ l. entries_in (pages l)) (here.list ∙ ap (λ l. l ++ here.entry ∷ here.right) first) ∙ behind-previous
       previous-behind (Some previous) (there, is, behind) = (there, ap (λ l. entries_in (pages l)) behind ∙ behind-previous)
 
     -- fewer leaves are left
-    pub previous-fewer : (previous : Option (LeafPtr (List ℕ) (Contents K V) P)) → IsPrevious (λ anchor. anchor) arena here previous → leaves-up-to previous < leaves-up-to (Some leaf)
+    pub previous-fewer : (previous : Option (LeafPtr (List ℕ) (PageContents K V) P)) → IsPrevious (λ anchor. anchor) arena here previous → leaves-up-to previous < leaves-up-to (Some leaf)
     previous-fewer None first = omega arith
     previous-fewer (Some previous) (there, is, behind) =
         let at = rank-placed arena leaf here in let then = rank-placed arena previous there in

@@ -4,7 +4,7 @@ use Rattle.std.proofs.lemmas.List.Elements.{All-cons, All-append}
 use Rattle.std.specs.declared.cmp.Ordering.{Ordering}
 use Rattle.art_arena.specs.Arena.{LeafPtr, NodeArena}
 use Rattle.art_index.specs.Places.{IsPlaced}
-use Rattle.art_pages.specs.Contents.{Contents}
+use Rattle.art_pages.specs.Contents.{PageContents}
 use Rattle.art_pages.specs.Entries.{IsOrdered, AreKeys}
 use Rattle.art_pages.proofs.OrderLemmas.{ordered-left, ordered-right, ordered-same}
 use Rattle.art_map.specs.Joins.{AreJoinable}
@@ -48,41 +48,41 @@ module _ {K V : Type 0} (order : K → K → Ordering) (is_key : K → Type 0) (
               (all-around Own (left ++ page ∷ []) next right (subst (All Own) (sym (append_assoc left (page ∷ []) (next ∷ right))) anchors))));
         }
 
-module _ {K V : Type 0} {P : ℕ} (arena : NodeArena (List ℕ) (Contents K V) P) (first second : LeafPtr (List ℕ) (Contents K V) P) where
+module _ {K V : Type 0} {P : ℕ} (arena : NodeArena (List ℕ) (PageContents K V) P) (first second : LeafPtr (List ℕ) (PageContents K V) P) where
   -- two pages beside each other can be joined, as the first one has memory for the entries of both
   pub joinable : (low : IsPlaced (λ anchor. anchor) arena first) (high : IsPlaced (λ anchor. anchor) arena second)
       → high.left ≡ low.left ++ low.entry ∷ [] → low.right ≡ high.entry ∷ high.right
-      → (one other : Contents K V) → one ≡ low.entry.1 → other ≡ high.entry.1 → length one.entries + length other.entries ≤ one.capacity
+      → (one other : PageContents K V) → one ≡ low.entry.1 → other ≡ high.entry.1 → length one.entries + length other.entries ≤ one.capacity
       → AreJoinable arena first second
   joinable low high left right one other one_is other_is room = record {
     low = low;
     high = high;
     left = left;
     right = right;
-    room = subst (λ (p : Contents K V). length p.entries + length high.entry.1.entries ≤ p.capacity) one_is
-        (subst (λ (p : Contents K V). length one.entries + length p.entries ≤ one.capacity) other_is room);
+    room = subst (λ (p : PageContents K V). length p.entries + length high.entry.1.entries ≤ p.capacity) one_is
+        (subst (λ (p : PageContents K V). length one.entries + length p.entries ≤ one.capacity) other_is room);
   }
 
-module _ {K V : Type 0} {P : ℕ} (old : NodeArena (List ℕ) (Contents K V) P) (first second : LeafPtr (List ℕ) (Contents K V) P) (two : AreJoinable old first second) where
+module _ {K V : Type 0} {P : ℕ} (old : NodeArena (List ℕ) (PageContents K V) P) (first second : LeafPtr (List ℕ) (PageContents K V) P) (two : AreJoinable old first second) where
   beside : pages_of old ≡ pages two.low.left ++ page_of two.low.entry ∷ page_of two.high.entry ∷ pages two.high.right
   beside = pages-around old first two.low ∙ ap (λ l. pages two.low.left ++ page_of two.low.entry ∷ pages l) two.right
 
   -- the two pages, as they are when the second one is out of the tree
-  module _ (low high : Contents K V) (low_is : low ≡ two.low.entry.1) (high_is : high.entries ≡ two.high.entry.1.entries) where
+  module _ (low high : PageContents K V) (low_is : low ≡ two.low.entry.1) (high_is : high.entries ≡ two.high.entry.1.entries) where
     pub room-there : length low.entries + length high.entries ≤ low.capacity
     room-there =
-        subst (λ (p : Contents K V). length p.entries + length high.entries ≤ p.capacity) (sym low_is)
+        subst (λ (p : PageContents K V). length p.entries + length high.entries ≤ p.capacity) (sym low_is)
         (subst (λ (l : List (K × V)). length two.low.entry.1.entries + length l ≤ two.low.entry.1.capacity) (sym high_is) two.room)
 
     module _ (order : K → K → Ordering) (is_key : K → Type 0) (encoded : K → List ℕ) (head : List (K × V)) (map_is : IsMap order is_key encoded head (pages_of old)) where
       pub ordered-leaves : (cmp : K → K → Ordering) → order ≡ cmp → IsOrdered cmp (low.entries ++ high.entries)
       ordered-leaves cmp same =
-          subst (λ (p : Contents K V). IsOrdered cmp (p.entries ++ high.entries)) (sym low_is)
+          subst (λ (p : PageContents K V). IsOrdered cmp (p.entries ++ high.entries)) (sym low_is)
           (subst (λ (l : List (K × V)). IsOrdered cmp (two.low.entry.1.entries ++ l)) (sym high_is)
           (ordered-both order is_key encoded head (pages_of old) map_is (pages two.low.left) (page_of two.low.entry) (page_of two.high.entry) (pages two.high.right) beside cmp same))
 
       -- and then all entries are in the first one
-      module _ (mid new : NodeArena (List ℕ) (Contents K V) P) (whole : Contents K V) (whole_is : whole.entries ≡ low.entries ++ high.entries)
+      module _ (mid new : NodeArena (List ℕ) (PageContents K V) P) (whole : PageContents K V) (whole_is : whole.entries ≡ low.entries ++ high.entries)
           (stays : (now : IsPlaced (λ anchor. anchor) mid first) × (now.left ≡ two.low.left) × (now.entry ≡ two.low.entry) × (now.right ≡ two.high.right))
           (changed : (now : IsPlaced (λ anchor. anchor) new first) × (now.left ≡ stays.0.left) × (now.entry ≡ (stays.0.entry.0, whole)) × (now.right ≡ stays.0.right)) where
         entries-are : whole.entries ≡ two.low.entry.1.entries ++ two.high.entry.1.entries

@@ -10,11 +10,11 @@ use Rattle.art_bytes.proofs.TextLaws.{greater_turned, less_turned}
 use Rattle.art_keys.specs.Encoding.{SortedBy}
 use Rattle.art_keys.specs.EncodingLaws.{sorted_agrees}
 use Rattle.art_arena.specs.Arena.{LeafPtr, NodeArena}
-use Rattle.art_pages.specs.Contents.{Contents}
+use Rattle.art_pages.specs.Contents.{PageContents}
 use Rattle.art_pages.specs.Entries.{IsOrdered, AreKeys, IsIndexable}
-use Rattle.art_pages.specs.Entries.{AllBelow as KeysUnder}
+use Rattle.art_pages.specs.Entries.{AllTextsBelow as KeysUnder}
 use Rattle.art_tree.specs.Entries.{entries_of}
-use Rattle.art_index.specs.Places.{AllAbove, AllBelow, IsFloor, IsNext, IsPlaced}
+use Rattle.art_index.specs.Places.{AllTextsAbove, AllTextsBelow, IsFloor, IsNext, IsPlaced}
 use Rattle.art_index.proofs.BranchLemmas.{all-unmapped}
 use Rattle.art_map.specs.Pages.{entries_in, map_entries, AnchorsBelow, KeysBelow, KeysFrom, AreParted, IsEncoding, IsMap}
 use Rattle.art_map.specs.Trees.{page_of, pages_of}
@@ -45,11 +45,11 @@ module _ {K V : Type 0} (encoded : K → List ℕ) where
 
 module _ {K V : Type 0} (order cmp : K → K → Ordering) (same : order ≡ cmp) (total : IsTotalOrder cmp) (is_key : K → Type 0) (encoded : K → List ℕ)
     (sorted : (x y : K) → is_key x → is_key y → SortedBy (cmp x y) (encoded x) (encoded y)) (key : K) (key_is : IsIndexable is_key encoded key) {P : ℕ}
-    (head : List (K × V)) (old : NodeArena (List ℕ) (Contents K V) P) (map_is : IsMap order is_key encoded head (pages_of old)) where
+    (head : List (K × V)) (old : NodeArena (List ℕ) (PageContents K V) P) (map_is : IsMap order is_key encoded head (pages_of old)) where
   -- an empty page is added behind the others
-  module _ (new : NodeArena (List ℕ) (Contents K V) P) (below : KeysUnder (cmp key) (map_entries head (pages_of old))) (anchors : AnchorsBelow (encoded key) (pages_of old))
-      (anchor : List ℕ) (is : anchor ≡ encoded key) (page : Contents K V) (empty : page.entries ≡ [])
-      (added : (left right : List (List ℕ × Contents K V)) → entries_of (λ anchor. anchor) old ≡ left ++ right → AllBelow (λ anchor. anchor) anchor left → AllAbove (λ anchor. anchor) anchor right
+  module _ (new : NodeArena (List ℕ) (PageContents K V) P) (below : KeysUnder (cmp key) (map_entries head (pages_of old))) (anchors : AnchorsBelow (encoded key) (pages_of old))
+      (anchor : List ℕ) (is : anchor ≡ encoded key) (page : PageContents K V) (empty : page.entries ≡ [])
+      (added : (left right : List (List ℕ × PageContents K V)) → entries_of (λ anchor. anchor) old ≡ left ++ right → AllTextsBelow (λ anchor. anchor) anchor left → AllTextsAbove (λ anchor. anchor) anchor right
       → entries_of (λ anchor. anchor) new ≡ left ++ (anchor, page) ∷ right) where
     now : pages_of new ≡ pages_of old ++ (encoded key, []) ∷ []
     now =
@@ -76,7 +76,7 @@ module _ {K V : Type 0} (order cmp : K → K → Ordering) (same : order ≡ cmp
     last-entries = ap (map_entries head) now ∙ same-entries
 
   -- a key above all entries of the last page, where it belongs, is above all entries and anchors
-  module _ (leaf : LeafPtr (List ℕ) (Contents K V) P) (floor : IsFloor (λ anchor. anchor) old (encoded key) leaf) (last : floor.place.right ≡ [])
+  module _ (leaf : LeafPtr (List ℕ) (PageContents K V) P) (floor : IsFloor (λ anchor. anchor) old (encoded key) leaf) (last : floor.place.right ≡ [])
       (some : 0 < length floor.place.entry.1.entries) (below : KeysUnder (cmp key) floor.place.entry.1.entries) where
     around : pages_of old ≡ pages floor.place.left ++ page_of floor.place.entry ∷ []
     around = pages-around old leaf floor.place ∙ ap (λ l. pages floor.place.left ++ page_of floor.place.entry ∷ pages l) last
@@ -128,7 +128,7 @@ module _ {K V : Type 0} (order cmp : K → K → Ordering) (same : order ≡ cmp
         (All-cons (λ page. text_order page.0 (encoded key) ≡ Less) (page_of floor.place.entry) [] own-below (All-nil (λ page. text_order page.0 (encoded key) ≡ Less))))
 
 -- where there is no next leaf, the leaf is the last one
-pub none-next : {K V : Type 0} {P : ℕ} (arena : NodeArena (List ℕ) (Contents K V) P) (leaf : LeafPtr (List ℕ) (Contents K V) P) (place : IsPlaced (λ anchor. anchor) arena leaf) (next : Option (LeafPtr (List ℕ) (Contents K V) P)) (is : Bool)
+pub none-next : {K V : Type 0} {P : ℕ} (arena : NodeArena (List ℕ) (PageContents K V) P) (leaf : LeafPtr (List ℕ) (PageContents K V) P) (place : IsPlaced (λ anchor. anchor) arena leaf) (next : Option (LeafPtr (List ℕ) (PageContents K V) P)) (is : Bool)
     → is_some next ≡ not is → is ≡ true → IsNext (λ anchor. anchor) arena place next → place.right ≡ []
 none-next arena leaf place None is said none at = at
 none-next arena leaf place (Some next) is said none at = let wrong : true ≡ not true = said ∙ ap not none in absurd (cc)

@@ -18,7 +18,7 @@ use Rattle.art_nodes.specs.Leaf.{with_value}
 use Rattle.art_arena.specs.Arena.{LeafPtr, NodeArena, leaf_count, space}
 use Rattle.art_arena.specs.Links.{with_value_at}
 use Rattle.art_arena.specs.Trees.{texts}
-use Rattle.art_pages.specs.Contents.{Contents}
+use Rattle.art_pages.specs.Contents.{PageContents}
 use Rattle.art_pages.specs.Entries.{IsIndexable, AreKeys}
 use Rattle.art_tree.proofs.EntryLaws.{entry-listed, list-same}
 use Rattle.art_steps.specs.Dictionary.{IsEntry, SameEntries}
@@ -28,7 +28,7 @@ use Rattle.art_steps.specs.NodeCounts.{nodes_of}
 use Rattle.art_steps.specs.Room.{HasEntryRoom, HasRoomOf}
 use Rattle.art_steps.specs.declared.faults.InsertRefusal.{InsertRefusal}
 use Rattle.art_steps.specs.declared.faults.InsertRefusal.TheVariants.{KeyTooLong, Prefix, OutOfMemory}
-use Rattle.art_index.specs.Places.{AllAbove, AllBelow, IsPlaced}
+use Rattle.art_index.specs.Places.{AllTextsAbove, AllTextsBelow, IsPlaced}
 use Rattle.art_index.proofs.BranchLemmas.{all-unmapped}
 use Rattle.art_map.specs.Pages.{map_entries, AnchorsAbove, AreParted, IsEncoding, IsMap}
 use Rattle.art_map.specs.Trees.{page_of, pages_of}
@@ -99,9 +99,9 @@ module _ {K V : Type 0} {P : ℕ} (arena : NodeArena K V P) (key : ℕ) (value :
   room-kept count enough kind = room-of kind count (enough kind)
 
 -- no refusal is due to an anchor of a map where there is room
-module _ {K V : Type 0} {P : ℕ} (is_key : K → Type 0) (encoded : K → List ℕ) (arena : NodeArena (List ℕ) (Contents K V) P)
+module _ {K V : Type 0} {P : ℕ} (is_key : K → Type 0) (encoded : K → List ℕ) (arena : NodeArena (List ℕ) (PageContents K V) P)
     (anchors : All (λ page. IsEncoding is_key encoded page.0) (pages_of arena)) where
-  own-encoding : (leaf : List ℕ × Contents K V) → IsEntry (λ anchor. anchor) arena leaf → IsEncoding is_key encoded leaf.0
+  own-encoding : (leaf : List ℕ × PageContents K V) → IsEntry (λ anchor. anchor) arena leaf → IsEncoding is_key encoded leaf.0
   own-encoding leaf is =
       All-contains (λ page. IsEncoding is_key encoded page.0) (pages_of arena) (page_of leaf) anchors
       (image_inside page_of (entries_of (λ anchor. anchor) arena) leaf (page_of leaf) refl (entry-listed (λ anchor. anchor) arena leaf is))
@@ -111,7 +111,7 @@ module _ {K V : Type 0} {P : ℕ} (is_key : K → Type 0) (encoded : K → List 
   not-due x short apart Prefix room due = apart due.1
   not-due x short apart OutOfMemory room due = room refl
 
-  module _ (law : (key : K) → is_key key → ((leaf : List ℕ × Contents K V) → IsEntry (λ anchor. anchor) arena leaf → IsEncoding is_key encoded leaf.0) → ¬ ClashesIn (λ anchor. anchor) arena (encoded key)) where
+  module _ (law : (key : K) → is_key key → ((leaf : List ℕ × PageContents K V) → IsEntry (λ anchor. anchor) arena leaf → IsEncoding is_key encoded leaf.0) → ¬ ClashesIn (λ anchor. anchor) arena (encoded key)) where
     pub key-never-refused : (key : K) → IsIndexable is_key encoded key → (anchor : List ℕ) → anchor ≡ encoded key
         → (refusal : InsertRefusal) → refusal ≢ OutOfMemory → IsRefused (λ anchor. anchor) arena anchor refusal → ⊥
     key-never-refused key key_is anchor is refusal room due =
@@ -135,11 +135,11 @@ anchors-below encoded before (other ∷ left) page right parted =
 
 module _ {K V : Type 0} (order cmp : K → K → Ordering) (same : order ≡ cmp) (total : IsTotalOrder cmp) (is_key : K → Type 0) (encoded : K → List ℕ)
     (sorted : (x y : K) → is_key x → is_key y → SortedBy (cmp x y) (encoded x) (encoded y)) {P : ℕ}
-    (head : List (K × V)) (old new : NodeArena (List ℕ) (Contents K V) P) (map_is : IsMap order is_key encoded head (pages_of old)) where
+    (head : List (K × V)) (old new : NodeArena (List ℕ) (PageContents K V) P) (map_is : IsMap order is_key encoded head (pages_of old)) where
   -- the first page is cut, and its upper part is added to the tree
   module _ (place : ℕ) (key : K) (at : option_map (λ entry. entry.0) (slice_get head place) ≡ Some key) (anchor : List ℕ) (is : anchor ≡ encoded key)
-      (page : Contents K V) (upper : page.entries ≡ drop place head)
-      (added : (left right : List (List ℕ × Contents K V)) → entries_of (λ anchor. anchor) old ≡ left ++ right → AllBelow (λ anchor. anchor) anchor left → AllAbove (λ anchor. anchor) anchor right
+      (page : PageContents K V) (upper : page.entries ≡ drop place head)
+      (added : (left right : List (List ℕ × PageContents K V)) → entries_of (λ anchor. anchor) old ≡ left ++ right → AllTextsBelow (λ anchor. anchor) anchor left → AllTextsAbove (λ anchor. anchor) anchor right
       → entries_of (λ anchor. anchor) new ≡ left ++ (anchor, page) ∷ right) where
     cut : IsCut head place key
     cut = cut-there head place key at
@@ -168,7 +168,7 @@ module _ {K V : Type 0} (order cmp : K → K → Ordering) (same : order ≡ cmp
         ∙ head-cut-entries order cmp same total is_key encoded sorted head (pages_of old) map_is (take place head) cut.entry cut.rest whole
 
 -- another page in a leaf keeps the anchors
-module _ {K V : Type 0} {P : ℕ} (old new : NodeArena (List ℕ) (Contents K V) P) (leaf : LeafPtr (List ℕ) (Contents K V) P) (place : IsPlaced (λ anchor. anchor) old leaf) (page : Contents K V)
+module _ {K V : Type 0} {P : ℕ} (old new : NodeArena (List ℕ) (PageContents K V) P) (leaf : LeafPtr (List ℕ) (PageContents K V) P) (place : IsPlaced (λ anchor. anchor) old leaf) (page : PageContents K V)
     (changed : (now : IsPlaced (λ anchor. anchor) new leaf) × (now.left ≡ place.left) × (now.entry ≡ (place.entry.0, page)) × (now.right ≡ place.right)) where
   pub anchors-changed : (is_key : K → Type 0) (encoded : K → List ℕ) → All (λ page. IsEncoding is_key encoded page.0) (pages_of old) → All (λ page. IsEncoding is_key encoded page.0) (pages_of new)
   anchors-changed is_key encoded anchors =
@@ -186,13 +186,13 @@ module _ {K V : Type 0} {P : ℕ} (old new : NodeArena (List ℕ) (Contents K V)
 
 module _ {K V : Type 0} (order cmp : K → K → Ordering) (same : order ≡ cmp) (total : IsTotalOrder cmp) (is_key : K → Type 0) (encoded : K → List ℕ)
     (sorted : (x y : K) → is_key x → is_key y → SortedBy (cmp x y) (encoded x) (encoded y)) {P : ℕ}
-    (head : List (K × V)) (old mid new : NodeArena (List ℕ) (Contents K V) P) (map_is : IsMap order is_key encoded head (pages_of old))
-    (leaf : LeafPtr (List ℕ) (Contents K V) P) (place : IsPlaced (λ anchor. anchor) old leaf) (low : Contents K V)
+    (head : List (K × V)) (old mid new : NodeArena (List ℕ) (PageContents K V) P) (map_is : IsMap order is_key encoded head (pages_of old))
+    (leaf : LeafPtr (List ℕ) (PageContents K V) P) (place : IsPlaced (λ anchor. anchor) old leaf) (low : PageContents K V)
     (changed : (now : IsPlaced (λ anchor. anchor) mid leaf) × (now.left ≡ place.left) × (now.entry ≡ (place.entry.0, low)) × (now.right ≡ place.right))
     (middle : ℕ) (some : 0 < middle) (within : middle < length place.entry.1.entries) (low_is : low.entries ≡ take middle place.entry.1.entries)
     (key : K) (at : option_map (λ entry. entry.0) (slice_get place.entry.1.entries middle) ≡ Some key) (anchor : List ℕ) (is : anchor ≡ encoded key)
-    (high : Contents K V) (high_is : high.entries ≡ drop middle place.entry.1.entries)
-    (added : (left right : List (List ℕ × Contents K V)) → entries_of (λ anchor. anchor) mid ≡ left ++ right → AllBelow (λ anchor. anchor) anchor left → AllAbove (λ anchor. anchor) anchor right
+    (high : PageContents K V) (high_is : high.entries ≡ drop middle place.entry.1.entries)
+    (added : (left right : List (List ℕ × PageContents K V)) → entries_of (λ anchor. anchor) mid ≡ left ++ right → AllTextsBelow (λ anchor. anchor) anchor left → AllTextsAbove (λ anchor. anchor) anchor right
     → entries_of (λ anchor. anchor) new ≡ left ++ (anchor, high) ∷ right) where
   -- the page of a leaf is cut, and its upper part is added to the tree
   halved : IsCut place.entry.1.entries middle key
@@ -215,7 +215,7 @@ module _ {K V : Type 0} (order cmp : K → K → Ordering) (same : order ≡ cmp
       page-cut order cmp same total is_key encoded sorted head (pages_of old) map_is (pages place.left) (page_of place.entry) (pages place.right) (pages-around old leaf place)
       front.0 front.1 halved.entry halved.rest halves
 
-  below : AllBelow (λ anchor. anchor) anchor (place.left ++ (place.entry.0, low) ∷ [])
+  below : AllTextsBelow (λ anchor. anchor) anchor (place.left ++ (place.entry.0, low) ∷ [])
   below =
       let Below : List ℕ × List (K × V) → Type 0 = λ other. text_order other.0 anchor ≡ Less in
       all-unmapped Below page_of (place.left ++ (place.entry.0, low) ∷ [])
@@ -224,7 +224,7 @@ module _ {K V : Type 0} (order cmp : K → K → Ordering) (same : order ≡ cmp
       (anchors-below encoded head (pages place.left ++ (place.entry.0, front.0 ∷ front.1) ∷ []) (encoded halved.entry.0, halved.entry ∷ halved.rest) (pages place.right)
       (subst (AreParted encoded head) (sym (append_assoc (pages place.left) ((place.entry.0, front.0 ∷ front.1) ∷ []) ((encoded halved.entry.0, halved.entry ∷ halved.rest) ∷ pages place.right))) map-cut.parted))))
 
-  above-there : AllAbove (λ anchor. anchor) anchor place.right
+  above-there : AllTextsAbove (λ anchor. anchor) anchor place.right
   above-there =
       all-unmapped (λ page. text_order page.0 anchor ≡ Greater) page_of place.right
       (subst (λ x. AnchorsAbove x (pages place.right)) (sym own-anchor)
@@ -248,5 +248,5 @@ module _ {K V : Type 0} (order cmp : K → K → Ordering) (same : order ≡ cmp
       front.0 front.1 halved.entry halved.rest halves
 
 -- with the same entries of the tree its pages are the same
-pub pages-kept : {K V : Type 0} {P : ℕ} (old new : NodeArena (List ℕ) (Contents K V) P) → SameEntries (λ anchor. anchor) old new → pages_of new ≡ pages_of old
+pub pages-kept : {K V : Type 0} {P : ℕ} (old new : NodeArena (List ℕ) (PageContents K V) P) → SameEntries (λ anchor. anchor) old new → pages_of new ≡ pages_of old
 pages-kept old new same = ap (map page_of) (list-same (λ anchor. anchor) old new same)

@@ -13,7 +13,7 @@ use Rattle.art_tree.proofs.EntryLaws.{are-entries}
 use Rattle.art_tree.specs.Entries.{entries_of}
 use Rattle.art_index.proofs.PlaceLemmas.{parts-same}
 use Rattle.art_index.specs.Places.{IsPlaced}
-use Rattle.art_pages.specs.Contents.{Contents}
+use Rattle.art_pages.specs.Contents.{PageContents}
 use Rattle.art_map.specs.Gaps.{IsSeat, is_behind}
 use Rattle.art_map.specs.Pages.{entries_in, map_entries}
 use Rattle.art_map.specs.Runs.{IsRun, entries_left, pages_between, rank, rank_at}
@@ -40,14 +40,14 @@ module _ {X : Type 0} (x y : List ℕ) (low : text_order x y ≢ Greater) where
   rank-rises [] = omega arith
   rank-rises (item ∷ l) = rank-step item l (text_order item.0 x) refl (rank-rises l)
 
-module _ {K V : Type 0} {P : ℕ} (head : List (K × V)) (arena : NodeArena (List ℕ) (Contents K V) P) where
+module _ {K V : Type 0} {P : ℕ} (head : List (K × V)) (arena : NodeArena (List ℕ) (PageContents K V) P) where
   abbrev Leaf : Type 0
-  Leaf = LeafPtr (List ℕ) (Contents K V) P
+  Leaf = LeafPtr (List ℕ) (PageContents K V) P
 
   abbrev Placed : Leaf → Type 0
   Placed leaf = IsPlaced (λ anchor. anchor) arena leaf
 
-  abbrev list : List (List ℕ × Contents K V)
+  abbrev list : List (List ℕ × PageContents K V)
   list = entries_of (λ anchor. anchor) arena
 
   abbrev whole : List (K × V)

@@ -21,7 +21,7 @@ use Rattle.art_pages.proofs.OrderLemmas.{keys-same}
 use Rattle.art_map.specs.Pages.{entries_in, map_entries, KeysBelow, KeysFrom, AreParted, IsEncoding, IsMap}
 use Rattle.art_map.proofs.PartLemmas.{parted-at, All-left}
 use Rattle.art_map.proofs.ChangeLemmas.{AreOver, entries-around, parted-changed, parted-before, parted-over, over-page, all-put, all-middle}
-use Rattle.art_map.specs.Spots.{IsEntered}
+use Rattle.art_map.specs.Spots.{HaveKeyNow}
 use Rattle.art_map.proofs.EntryLemmas.{length-added}
 
 module _ {K V : Type 0} where
@@ -191,18 +191,18 @@ module _ {K : Type 0} (cmp : K → K → Ordering) (total : IsTotalOrder cmp) (k
       by_order Greater is later = ap (λ o. cond (is_eq o) (Some e.1) (get_by (cmp key) (insert_entry cmp entries key value))) is ∙ later
 
   -- what entries are once a key was looked for and added, with another value
-  module _ {V : Type 0} (made : V → Type 0) (old new : List (K × V)) (more : ℕ) (entered : IsEntered cmp key made old new more) where
+  module _ {V : Type 0} (made : V → Type 0) (old new : List (K × V)) (more : ℕ) (entered : HaveKeyNow cmp key made old new more) where
     pub entered-inserts : (value : V) → insert_entry cmp new key value ≡ insert_entry cmp old key value
     entered-inserts value = by_case entered
       where
-        by_case : IsEntered cmp key made old new more → insert_entry cmp new key value ≡ insert_entry cmp old key value
+        by_case : HaveKeyNow cmp key made old new more → insert_entry cmp new key value ≡ insert_entry cmp old key value
         by_case (inl (none, same, some)) = ap (λ l. insert_entry cmp l key value) same
         by_case (inr (one, none, (first, is_made, is))) = ap (λ l. insert_entry cmp l key value) is ∙ insert-twice old first value
 
     pub entered-value : (value : V) → get_by (cmp key) new ≡ Some value → UnwrapsOrElse (get_by (cmp key) old) made value
     entered-value value is_now = by_case entered
       where
-        by_case : IsEntered cmp key made old new more → UnwrapsOrElse (get_by (cmp key) old) made value
+        by_case : HaveKeyNow cmp key made old new more → UnwrapsOrElse (get_by (cmp key) old) made value
         by_case (inl (none, same, some)) = subst (λ o. UnwrapsOrElse o made value) (sym (ap (get_by (cmp key)) (sym same) ∙ is_now)) refl
         by_case (inr (one, none, (first, is_made, is))) =
             let so : first ≡ value = same_Some first value (sym (get-inserted old first) ∙ ap (get_by (cmp key)) (sym is) ∙ is_now) in
@@ -211,14 +211,14 @@ module _ {K : Type 0} (cmp : K → K → Ordering) (total : IsTotalOrder cmp) (k
     pub entered-length : (len : ℕ) → len ≡ length old → len + more ≡ length new
     entered-length len is_len = by_case entered
       where
-        by_case : IsEntered cmp key made old new more → len + more ≡ length new
+        by_case : HaveKeyNow cmp key made old new more → len + more ≡ length new
         by_case (inl (none, same, some)) = let longer = ap length same in omega (arith, none, longer, is_len)
         by_case (inr (one, none, (first, is_made, is))) =
             let longer = ap length is ∙ length-added cmp key first old none in omega (arith, one, longer, is_len)
 
 -- what came of a key that had no entry
 module _ {K V S E : Type 0} (cmp : K → K → Ordering) (key : K) (made : V → Type 0) (more : S → ℕ) (old new : List (K × V)) (value : V) (none : get_by (cmp key) old ≡ None) (is_made : made value) where
-  pub entered-new : (r : Result S E) → IfOk r (λ spot. more spot ≡ 1) → OnOk r (new ≡ insert_entry cmp old key value) → IfOk r (λ spot. IsEntered cmp key made old new (more spot))
+  pub entered-new : (r : Result S E) → IfOk r (λ spot. more spot ≡ 1) → OnOk r (new ≡ insert_entry cmp old key value) → IfOk r (λ spot. HaveKeyNow cmp key made old new (more spot))
   entered-new (Ok spot) one is = inr (one, none, (value, is_made, is))
   entered-new (Err fault) one is = tt
 

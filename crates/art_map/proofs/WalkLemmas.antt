@@ -12,7 +12,7 @@ use Rattle.art_tree.specs.Entries.{entries_of}
 use Rattle.art_search.specs.Search.{leaf_pointer}
 use Rattle.art_index.specs.Places.{IsFirst, IsNext, IsPlaced, IsPrevious, leaf_entry}
 use Rattle.art_pages.proofs.RetainLemmas.{callable-back, callable-front, retains-append}
-use Rattle.art_pages.specs.Contents.{Contents}
+use Rattle.art_pages.specs.Contents.{PageContents}
 use Rattle.art_pages.specs.Retaining.{RetainsTo}
 use Rattle.art_map.proofs.ChangeLemmas.{entries-around}
 use Rattle.art_map.proofs.EndLemmas.{leaves-left}
@@ -22,7 +22,7 @@ use Rattle.art_map.proofs.RunLemmas.{entries_last, rank-placed}
 use Rattle.art_map.proofs.TreeLemmas.{pages, pages-around}
 use Rattle.art_map.specs.Pages.{entries_in}
 use Rattle.art_map.specs.Trees.{page_of, pages_of}
-use Rattle.art_map.specs.Walk.{IsAt, IsUpTo}
+use Rattle.art_map.specs.Walk.{ArePagesUpTo, IsAt}
 
 -- the entries that stay are fewer
 pub fewer-retained : {F K V : Type 0} (T : F → K → V → Bool → V → F → Type 0) (entries kept : List (K × V)) (f last : F) → RetainsTo T f entries kept last → IsFewer entries kept
@@ -41,16 +41,16 @@ as_leaf-held H None = refl
 as_leaf-held H (Some leaf) = refl
 
 abbrev Leaf : Type 0 → Type 0 → ℕ → Type 0
-Leaf K V P = LeafPtr (List ℕ) (Contents K V) P
+Leaf K V P = LeafPtr (List ℕ) (PageContents K V) P
 
 abbrev Arena : Type 0 → Type 0 → ℕ → Type 0
-Arena K V P = NodeArena (List ℕ) (Contents K V) P
+Arena K V P = NodeArena (List ℕ) (PageContents K V) P
 
 abbrev Leaves : Type 0 → Type 0 → Type 0
-Leaves K V = List (List ℕ × Contents K V)
+Leaves K V = List (List ℕ × PageContents K V)
 
 -- the entries of pages, and of one more behind them
-entries-more : {K V : Type 0} (left : Leaves K V) (leaf : List ℕ × Contents K V) → entries_in (pages (left ++ leaf ∷ [])) ≡ entries_in (pages left) ++ leaf.1.entries
+entries-more : {K V : Type 0} (left : Leaves K V) (leaf : List ℕ × PageContents K V) → entries_in (pages (left ++ leaf ∷ [])) ≡ entries_in (pages left) ++ leaf.1.entries
 entries-more left leaf = ap entries_in (map-append page_of left (leaf ∷ [])) ∙ entries_last (pages left) (page_of leaf)
 
 -- a test f was made of the entries of the pages before a leaf, and is to be made of the others; at first it was `first`, and these
@@ -71,14 +71,14 @@ module _ {K V : Type 0} {P : ℕ} where
   pub placed-still : (old new : Arena K V P) (leaf : Leaf K V P) (here : Placed old leaf) → SameNodes old new → entries_of (λ anchor. anchor) new ≡ entries_of (λ anchor. anchor) old
       → (now : Placed new leaf) × (now.left ≡ here.left) × (now.entry ≡ here.entry) × (now.right ≡ here.right)
   placed-still old new leaf here nodes same =
-      let leaf_same = sym (as_leaf-held (OpaqueNodePtr (List ℕ) (Contents K V) P) (leaf_at new (slab_key leaf))) ∙ ap as_leaf (nodes (leaf_pointer leaf)) ∙ as_leaf-held (OpaqueNodePtr (List ℕ) (Contents K V) P) (leaf_at old (slab_key leaf)) in
+      let leaf_same = sym (as_leaf-held (OpaqueNodePtr (List ℕ) (PageContents K V) P) (leaf_at new (slab_key leaf))) ∙ ap as_leaf (nodes (leaf_pointer leaf)) ∙ as_leaf-held (OpaqueNodePtr (List ℕ) (PageContents K V) P) (leaf_at old (slab_key leaf)) in
       (record { left = here.left; entry = here.entry; right = here.right; holds = ap (option_map leaf_entry) leaf_same ∙ here.holds; list = same ∙ here.list }, refl, refl, refl)
 
   -- a page up to which a walk came: these are before the rest
   abbrev pub Passed : (old new : Arena K V P) (leaf : Leaf K V P) → Placed old leaf → Option (Leaf K V P) → Type 0
-  Passed old new leaf here last = (seen : Leaves K V) × IsUpTo new last seen here.right × (entries_in (pages seen) ≡ entries_in (pages here.left) ++ here.entry.1.entries)
+  Passed old new leaf here last = (seen : Leaves K V) × ArePagesUpTo new last seen here.right × (entries_in (pages seen) ≡ entries_in (pages here.left) ++ here.entry.1.entries)
 
-  up-to-list : (arena : Arena K V P) (last : Option (Leaf K V P)) (seen rest : Leaves K V) → IsUpTo arena last seen rest → entries_of (λ anchor. anchor) arena ≡ seen ++ rest
+  up-to-list : (arena : Arena K V P) (last : Option (Leaf K V P)) (seen rest : Leaves K V) → ArePagesUpTo arena last seen rest → entries_of (λ anchor. anchor) arena ≡ seen ++ rest
   up-to-list arena None seen rest (start, all) = all ∙ ap (λ l. l ++ rest) (sym start)
   up-to-list arena (Some leaf) seen rest (here, up_to, right) = here.list ∙ sym (append_assoc here.left (here.entry ∷ []) here.right) ∙ (λ j. up_to j ++ right j)
 
@@ -107,16 +107,16 @@ module _ {K V : Type 0} {P : ℕ} where
       (here.left, (now, (λ j. now_left j ++ now_entry j ∷ []) ∙ sym left, now_right), sym (append-nil (entries_in (pages here.left))) ∙ ap (λ l. entries_in (pages here.left) ++ l) (sym empty))
 
   -- the last leaf is in the tree
-  pub up-to-placed : (arena : Arena K V P) (last : Option (Leaf K V P)) (seen rest : Leaves K V) → IsUpTo arena last seen rest → IfSome last (λ leaf. Placed arena leaf)
+  pub up-to-placed : (arena : Arena K V P) (last : Option (Leaf K V P)) (seen rest : Leaves K V) → ArePagesUpTo arena last seen rest → IfSome last (λ leaf. Placed arena leaf)
   up-to-placed arena None seen rest at = tt
   up-to-placed arena (Some leaf) seen rest at = at.0
 
   -- the leaf behind that of the last page, or the first leaf
-  pub first-at : (arena : Arena K V P) (first : Option (Leaf K V P)) → IsFirst (λ anchor. anchor) arena first → (seen rest : Leaves K V) → IsUpTo arena None seen rest → IsAt arena first seen rest
+  pub first-at : (arena : Arena K V P) (first : Option (Leaf K V P)) → IsFirst (λ anchor. anchor) arena first → (seen rest : Leaves K V) → ArePagesUpTo arena None seen rest → IsAt arena first seen rest
   first-at arena None none seen rest (start, all) = (none ∙ sym start, sym all ∙ none)
   first-at arena (Some leaf) (here, none) seen rest (start, all) = (here, none ∙ sym start, ap (λ l. l ++ here.entry ∷ here.right) (sym none) ∙ sym here.list ∙ all)
 
-  pub next-at : (arena : Arena K V P) (leaf : Leaf K V P) (next : Option (Leaf K V P)) → ((here : Placed arena leaf) → IsNext (λ anchor. anchor) arena here next) → (seen rest : Leaves K V) → IsUpTo arena (Some leaf) seen rest → IsAt arena next seen rest
+  pub next-at : (arena : Arena K V P) (leaf : Leaf K V P) (next : Option (Leaf K V P)) → ((here : Placed arena leaf) → IsNext (λ anchor. anchor) arena here next) → (seen rest : Leaves K V) → ArePagesUpTo arena (Some leaf) seen rest → IsAt arena next seen rest
   next-at arena leaf next behind seen rest (here, up_to, right) = by next (behind here)
     where
       by : (next : Option (Leaf K V P)) → IsNext (λ anchor. anchor) arena here next → IsAt arena next seen rest
@@ -132,7 +132,7 @@ module _ {K V : Type 0} {P : ℕ} where
 
   -- a walk at the first leaf
   pub walk-start : {F : Type 0} (T : F → K → V → Bool → V → F → Type 0) (Q : F → K → V → Type 0) (first : F) (arena : Arena K V P) (at : Option (Leaf K V P))
-      → CallableOnEachPair T Q first (entries_in (pages_of arena)) → ((seen rest : Leaves K V) → IsUpTo arena None seen rest → IsAt arena at seen rest) → IsWalk T Q first (entries_in (pages_of arena)) arena at first
+      → CallableOnEachPair T Q first (entries_in (pages_of arena)) → ((seen rest : Leaves K V) → ArePagesUpTo arena None seen rest → IsAt arena at seen rest) → IsWalk T Q first (entries_in (pages_of arena)) arena at first
   walk-start T Q first arena at callable there =
       let all = entries_of (λ anchor. anchor) arena in record { seen = []; rest = all; there = there [] all (refl, refl); callable = callable; tested = λ kept last on. on }
 
@@ -182,7 +182,7 @@ module _ {K V : Type 0} {P : ℕ} where
             let same_left = ap (λ l. length (entries_in (pages l))) left in let same_right = ap (λ l. length (entries_in (pages l))) right in
             omega (arith, parts, one, other, parts_now, one_now, other_now, same_left, same_right, count)
 
-        module _ (new : Arena K V P) (last next : Option (Leaf K V P)) (passed : Passed mid new leaf now last) (there : (seen rest : Leaves K V) → IsUpTo new last seen rest → IsAt new next seen rest) where
+        module _ (new : Arena K V P) (last next : Option (Leaf K V P)) (passed : Passed mid new leaf now last) (there : (seen rest : Leaves K V) → ArePagesUpTo new last seen rest → IsAt new next seen rest) where
           -- the walk goes on
           pub walk-next : IsWalk T Q first entries new next f'
           walk-next =

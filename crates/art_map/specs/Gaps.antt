@@ -4,7 +4,7 @@ use Rattle.std.specs.Ordering.{is_lt, is_le}
 use Rattle.std.specs.declared.cmp.Ordering.{Ordering}
 use Rattle.art_arena.specs.Arena.{LeafPtr, NodeArena}
 use Rattle.art_index.specs.Places.{IsPlaced}
-use Rattle.art_pages.specs.Contents.{Contents}
+use Rattle.art_pages.specs.Contents.{PageContents}
 use Rattle.art_map.specs.Pages.{entries_in}
 use Rattle.art_map.specs.Trees.{page_of, pages_of}
 
@@ -25,7 +25,7 @@ module _ {K : Type 0} (compare : K → Ordering) (after : Bool) where
     IsGapAt entries place = (place ≤ length entries) × AllBefore (take place entries) × AllBehind (drop place entries)
 
     -- the gap is in the page of this leaf, or where there is no leaf in the first page, before the entry at an index
-    abbrev pub IsSeat : {P : ℕ} → List (K × V) → NodeArena (List ℕ) (Contents K V) P → Option (LeafPtr (List ℕ) (Contents K V) P) → ℕ → Type 0
+    abbrev pub IsSeat : {P : ℕ} → List (K × V) → NodeArena (List ℕ) (PageContents K V) P → Option (LeafPtr (List ℕ) (PageContents K V) P) → ℕ → Type 0
     IsSeat head arena None place = IsGapAt head place × AllBehind (entries_in (pages_of arena))
     IsSeat head arena (Some leaf) place =
         (here : IsPlaced (λ anchor. anchor) arena leaf) × AllBefore (head ++ entries_in (map page_of here.left))

@@ -6,7 +6,7 @@ use Rattle.std.specs.declared.cmp.Ordering.TheVariants.{Greater}
 use Rattle.art_bytes.specs.Text.{text_order}
 use Rattle.art_arena.specs.Arena.{LeafPtr, NodeArena}
 use Rattle.art_index.specs.Places.{IsPlaced}
-use Rattle.art_pages.specs.Contents.{Contents}
+use Rattle.art_pages.specs.Contents.{PageContents}
 use Rattle.art_pages.specs.Entries.{AllAbove, AllBelow, IsPlaceOf, get_by}
 use Rattle.art_map.specs.Pages.{entries_in, AnchorsAbove}
 use Rattle.art_map.specs.Trees.{page_of, pages_of}
@@ -30,7 +30,7 @@ module _ {K V : Type 0} (compare : K → Ordering) (x : List ℕ) (head : List (
 
   module _ {P : ℕ} where
     -- the query belongs to the page of this leaf, there at this index
-    pub record IsSpotInLeaf (arena : NodeArena (List ℕ) (Contents K V) P) (leaf : LeafPtr (List ℕ) (Contents K V) P) (place : Result ℕ ℕ) : Type 0 where
+    pub record IsSpotInLeaf (arena : NodeArena (List ℕ) (PageContents K V) P) (leaf : LeafPtr (List ℕ) (PageContents K V) P) (place : Result ℕ ℕ) : Type 0 where
       pub here : IsPlaced (λ anchor. anchor) arena leaf
       pub at : IsPlaceOf compare here.entry.1.entries place
       pub before : AllBelow compare (head ++ entries_in (map page_of here.left))
@@ -39,17 +39,17 @@ module _ {K V : Type 0} (compare : K → Ordering) (x : List ℕ) (head : List (
       pub above : AnchorsAbove x (map page_of here.right)
 
     -- either, in a tree: the first page where there is no leaf
-    abbrev pub IsSpotOver : NodeArena (List ℕ) (Contents K V) P → Option (LeafPtr (List ℕ) (Contents K V) P) → Result ℕ ℕ → Type 0
+    abbrev pub IsSpotOver : NodeArena (List ℕ) (PageContents K V) P → Option (LeafPtr (List ℕ) (PageContents K V) P) → Result ℕ ℕ → Type 0
     IsSpotOver arena None place = IsSpotInHead (pages_of arena) place
     IsSpotOver arena (Some leaf) place = IsSpotInLeaf arena leaf place
 
     -- the same where there may be no tree
-    abbrev pub IsSpot : {T : Type 0} → (T → NodeArena (List ℕ) (Contents K V) P) → Option T → Option (LeafPtr (List ℕ) (Contents K V) P) → Result ℕ ℕ → Type 0
-    IsSpot arena None None place = IsSpotInHead [] place
-    IsSpot arena None (Some leaf) place = ⊥
-    IsSpot arena (Some tree) leaf place = IsSpotOver (arena tree) leaf place
+    abbrev pub IsPageSpot : {T : Type 0} → (T → NodeArena (List ℕ) (PageContents K V) P) → Option T → Option (LeafPtr (List ℕ) (PageContents K V) P) → Result ℕ ℕ → Type 0
+    IsPageSpot arena None None place = IsSpotInHead [] place
+    IsPageSpot arena None (Some leaf) place = ⊥
+    IsPageSpot arena (Some tree) leaf place = IsSpotOver (arena tree) leaf place
 
 -- entries have a key now: they had it before, or it was added to them with a value that was made; so many entries more
-abbrev pub IsEntered : {K V : Type 0} → (K → K → Ordering) → K → (V → Type 0) → List (K × V) → List (K × V) → ℕ → Type 0
-IsEntered {V = V} cmp key made old new more =
+abbrev pub HaveKeyNow : {K V : Type 0} → (K → K → Ordering) → K → (V → Type 0) → List (K × V) → List (K × V) → ℕ → Type 0
+HaveKeyNow {V = V} cmp key made old new more =
     ((more ≡ 0) × (new ≡ old) × IsSome (get_by (cmp key) old)) ⊎ ((more ≡ 1) × (get_by (cmp key) old ≡ None) × ((value : V) × made value × (new ≡ insert_entry cmp old key value)))

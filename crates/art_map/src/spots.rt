@@ -3,7 +3,7 @@ ghost use Rattle.std.specs.Prelude.{◌≡◌, ◌<◌, ◌≤◌, ◌^◌, ◌�
 ghost use Rattle.std.specs.BTreeMap.{insert_entry};
 ghost use Rattle.art_pages.specs.Entries.{IsIndexable, IsPlaceOf, get_by};
 ghost use Rattle.art_map.specs.Pages.{map_entries, IsMap};
-ghost use Rattle.art_map.specs.Spots.{IsBeforeSome, IsBehindSome, IsEntered, IsSpot, IsSpotInLeaf, IsSpotOver};
+ghost use Rattle.art_map.specs.Spots.{HaveKeyNow, IsBeforeSome, IsBehindSome, IsPageSpot, IsSpotInLeaf, IsSpotOver};
 ghost use Rattle.art_map.specs.Trees.{pages_in, pages_of};
 ghost use Rattle.art_map.specs.declared.fault.InsertRefusal.TheVariants.{KeyTooLong, OutOfMemory};
 
@@ -116,7 +116,7 @@ pub(crate) fn find<K: RadixKey, V, Q: RadixQuery<K>>(
 ) -> (Option<Leaf<K, V>>, Result<usize, usize>)
     requires { IsMap K.order K.is_key K.encoded head.now.entries
         (pages_in (λ tree. pages_of tree.value.arena) tree.now) }
-    ensures { IsSpot (Q.compare query) (Q.encoded query) head.now.entries (λ tree. tree.value.arena) tree.now
+    ensures { IsPageSpot (Q.compare query) (Q.encoded query) head.now.entries (λ tree. tree.value.arena) tree.now
         result.0 result.1 }
 {
     match tree {
@@ -193,7 +193,7 @@ fn add<K: RadixKey, V>(
     requires map { IsMap K.order K.is_key K.encoded head.old.entries
         (pages_in (λ tree. pages_of tree.value.arena) tree.old) }
     requires key { IsIndexable K.is_key K.encoded key }
-    requires spot { IsSpot (K.cmp key) (K.encoded key) head.old.entries (λ tree. tree.value.arena) tree.old
+    requires spot { IsPageSpot (K.cmp key) (K.encoded key) head.old.entries (λ tree. tree.value.arena) tree.old
         leaf (Err place) }
     ensures map { IsMap K.order K.is_key K.encoded head.new.entries
         (pages_in (λ tree. pages_of tree.value.arena) tree.new) }
@@ -201,7 +201,7 @@ fn add<K: RadixKey, V>(
         (pages_in (λ tree. pages_of tree.value.arena) tree.new)
         ≡ insert_entry K.cmp (map_entries head.old.entries
         (pages_in (λ tree. pages_of tree.value.arena) tree.old)) key value) }
-    ensures spot { OnOk result (IsSpot (K.cmp key) (K.encoded key) head.new.entries
+    ensures spot { OnOk result (IsPageSpot (K.cmp key) (K.encoded key) head.new.entries
         (λ tree. tree.value.arena) tree.new leaf (Ok place)) }
     ensures most { OnOk result (0 < most) }
     ensures returned { IfErr result (λ back. back ≡ (key, value)) }
@@ -231,10 +231,10 @@ pub(crate) fn enter<K: RadixKey + Drop, V: Drop, F: FnOnce() -> V>(
     requires make { F.pre make }
     ensures map { IsMap K.order K.is_key K.encoded head.new.entries
         (pages_in (λ tree. pages_of tree.value.arena) tree.new) }
-    ensures entered { IfOk result (λ spot. IsEntered K.cmp key (F.post make)
+    ensures entered { IfOk result (λ spot. HaveKeyNow K.cmp key (F.post make)
         (map_entries head.old.entries (pages_in (λ tree. pages_of tree.value.arena) tree.old))
         (map_entries head.new.entries (pages_in (λ tree. pages_of tree.value.arena) tree.new)) spot.more) }
-    ensures spot { IfOk result (λ spot. IsSpot (K.cmp key) (K.encoded key) head.new.entries
+    ensures spot { IfOk result (λ spot. IsPageSpot (K.cmp key) (K.encoded key) head.new.entries
         (λ tree. tree.value.arena) tree.new spot.leaf (Ok spot.place)) }
     ensures most { IfOk result (λ spot. spot.more ≤ most) }
     ensures one { IfOk result (λ spot. spot.more ≤ 1) }
@@ -271,7 +271,7 @@ fn enter_new<K: RadixKey + Drop, V: Drop>(
 ) -> Result<Spot<Leaf<K, V>>, InsertFault<K, V>>
     requires map { IsMap K.order K.is_key K.encoded head.old.entries
         (pages_in (λ tree. pages_of tree.value.arena) tree.old) }
-    requires spot { IsSpot (K.cmp key) (K.encoded key) head.old.entries (λ tree. tree.value.arena) tree.old
+    requires spot { IsPageSpot (K.cmp key) (K.encoded key) head.old.entries (λ tree. tree.value.arena) tree.old
         leaf (Err place) }
     ensures map { IsMap K.order K.is_key K.encoded head.new.entries
         (pages_in (λ tree. pages_of tree.value.arena) tree.new) }
@@ -279,7 +279,7 @@ fn enter_new<K: RadixKey + Drop, V: Drop>(
         (pages_in (λ tree. pages_of tree.value.arena) tree.new)
         ≡ insert_entry K.cmp (map_entries head.old.entries
         (pages_in (λ tree. pages_of tree.value.arena) tree.old)) key value) }
-    ensures spot { IfOk result (λ spot. IsSpot (K.cmp key) (K.encoded key) head.new.entries
+    ensures spot { IfOk result (λ spot. IsPageSpot (K.cmp key) (K.encoded key) head.new.entries
         (λ tree. tree.value.arena) tree.new spot.leaf (Ok spot.place)) }
     ensures more { IfOk result (λ spot. spot.more ≡ 1) }
     ensures most { OnOk result (0 < most) }
@@ -326,7 +326,7 @@ fn enter_with_room<K: RadixKey + Drop, V: Drop>(
         (pages_in (λ tree. pages_of tree.value.arena) tree.new)
         ≡ insert_entry K.cmp (map_entries head.old.entries
         (pages_in (λ tree. pages_of tree.value.arena) tree.old)) key value) }
-    ensures spot { IfOk result (λ spot. IsSpot (K.cmp key) (K.encoded key) head.new.entries
+    ensures spot { IfOk result (λ spot. IsPageSpot (K.cmp key) (K.encoded key) head.new.entries
         (λ tree. tree.value.arena) tree.new spot.leaf (Ok spot.place)) }
     ensures more { IfOk result (λ spot. spot.more ≡ 1) }
     ensures most { OnOk result (0 < most) }

@@ -2,11 +2,11 @@
 ghost use Rattle.std.specs.Prelude.{◌≡◌, ◌+◌, ◌≤◌, ◌++◌, List, ℕ, IfSome, length, map};
 ghost use Rattle.std.specs.Map.Calls.{CallableOnEachPair, RetainsPairs};
 ghost use Rattle.art_index.specs.Places.{IsPlaced};
-ghost use Rattle.art_pages.specs.Contents.{Contents};
+ghost use Rattle.art_pages.specs.Contents.{PageContents};
 ghost use Rattle.art_pages.specs.Retaining.{RetainsTo};
 ghost use Rattle.art_map.specs.Pages.{entries_in, map_entries, IsMap};
 ghost use Rattle.art_map.specs.Trees.{page_of, pages_in, pages_of};
-ghost use Rattle.art_map.specs.Walk.{IsAt, IsUpTo};
+ghost use Rattle.art_map.specs.Walk.{ArePagesUpTo, IsAt};
 
 use crate::map::{Leaf, Tree};
 use art_index::{first_page, next_page, page, page_mut, previous_page, take_page};
@@ -44,7 +44,7 @@ fn drop_emptied<K: RadixKey + Drop, V: Drop>(
         IsMap K.order K.is_key K.encoded head (pages_of tree.old.arena) →
         IsMap K.order K.is_key K.encoded head (pages_of tree.new.arena) }
     ensures passed { (here : IsPlaced (λ anchor. anchor) tree.old.arena leaf) →
-        (seen : List (List ℕ × Contents K V)) × IsUpTo tree.new.arena result seen here.right ×
+        (seen : List (List ℕ × PageContents K V)) × ArePagesUpTo tree.new.arena result seen here.right ×
         (entries_in (map page_of seen) ≡ entries_in (map page_of here.left) ++ here.entry.1.entries) }
 {
     if !page(tree, leaf).1.is_empty() {
@@ -60,7 +60,7 @@ fn drop_emptied<K: RadixKey + Drop, V: Drop>(
 // The leaf of the page behind one, or of the first page.
 fn page_behind<K: RadixKey, V>(tree: &Tree<K, V>, last: Option<Leaf<K, V>>) -> Option<Leaf<K, V>>
     requires { IfSome last (λ leaf. IsPlaced (λ anchor. anchor) tree.now.arena leaf) }
-    ensures { (seen rest : List (List ℕ × Contents K V)) → IsUpTo tree.now.arena last seen rest →
+    ensures { (seen rest : List (List ℕ × PageContents K V)) → ArePagesUpTo tree.now.arena last seen rest →
         IsAt tree.now.arena result seen rest }
 {
     match last {

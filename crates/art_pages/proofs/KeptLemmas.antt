@@ -7,7 +7,7 @@ use Rattle.std.specs.Cmp.{IsTotalOrder}
 use Rattle.std.specs.List.Sorted.{IsStrictlySortedBy}
 use Rattle.std.specs.Prelude.{insert}
 use Rattle.std.specs.declared.cmp.Ordering.{Ordering}
-use Rattle.art_pages.specs.Contents.{Contents, set_value_at, with_value}
+use Rattle.art_pages.specs.Contents.{PageContents, page_with_value, set_value_at}
 use Rattle.art_pages.specs.Entries.{IsOrdered, AllBelow, AllAbove, IsPlaceOf}
 use Rattle.art_pages.proofs.OrderLemmas.{AllKeys, ordered-nil, ordered-take, ordered-drop, ordered-between, ordered-without, ordered-same, keys-between, keys-take, keys-drop, keys-without, keys-same}
 use Rattle.art_pages.proofs.ValueLemmas.{keys_of-set_value_at}
@@ -63,14 +63,14 @@ either P true x y first second = first
 either P false x y first second = second
 
 -- what is known of a page's entries, of the list behind them
-module _ {K V : Type 0} (inside now : Contents K V) (view_is : inside ≡ now) where
+module _ {K V : Type 0} (inside now : PageContents K V) (view_is : inside ≡ now) where
   pub within-view : (place : ℕ) → place < length now.entries → place < length inside.entries
-  within-view place within = subst (λ (page : Contents K V). place < length page.entries) (sym view_is) within
+  within-view place within = subst (λ (page : PageContents K V). place < length page.entries) (sym view_is) within
 
   pub place-view : (compare : K → Ordering) (r : Result ℕ ℕ) → IsPlaceOf compare now.entries r → IsPlaceOf compare inside.entries r
-  place-view compare r is = subst (λ (page : Contents K V). IsPlaceOf compare page.entries r) (sym view_is) is
+  place-view compare r is = subst (λ (page : PageContents K V). IsPlaceOf compare page.entries r) (sym view_is) is
 
   -- with a value at an index
   pub value-view : (place : ℕ) (value : V) (entries : List (K × V)) → entries ≡ set_value_at inside.entries place value
-      → ◌≡◌ {A = Contents K V} (record { entries = entries; capacity = inside.capacity }) (with_value now place value)
-  value-view place value entries is = (λ i. record { entries = is i; capacity = inside.capacity }) ∙ ap (λ (page : Contents K V). with_value page place value) view_is
+      → ◌≡◌ {A = PageContents K V} (record { entries = entries; capacity = inside.capacity }) (page_with_value now place value)
+  value-view place value entries is = (λ i. record { entries = is i; capacity = inside.capacity }) ∙ ap (λ (page : PageContents K V). page_with_value page place value) view_is

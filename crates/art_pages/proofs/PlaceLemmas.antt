@@ -12,7 +12,7 @@ use Rattle.art_bytes.specs.Text.{text_order}
 use Rattle.art_keys.specs.Encoding.{SortedBy, Agrees}
 use Rattle.art_keys.specs.EncodingLaws.{order_of_encodings}
 use Rattle.art_pages.specs.Entries.{IsOrdered, AreKeys, IsPlaceOf, AllBelow, AllAbove}
-use Rattle.art_pages.specs.Places.{IsBeside}
+use Rattle.art_pages.specs.Places.{IsSearchResult}
 
 -- a query that is not above an entry is below those after it, and one that is not below an entry is above those before it
 pub record Divides {K V : Type 0} (compare : K → Ordering) (entries : List (K × V)) : Type 0 where
@@ -131,7 +131,7 @@ module _ {K V : Type 0} (compare : K → Ordering) (entries : List (K × V)) (di
           (unturned (compare (get_or entries (i + k) d).0) Greater (point.1 (i + k) d (omega arith) there))
 
   -- what the entries beside an index say is enough
-  pub beside-placed : (r : Result ℕ ℕ) → IsBeside compare entries r → IsPlaceOf compare entries r
+  pub beside-placed : (r : Result ℕ ℕ) → IsSearchResult compare entries r → IsPlaceOf compare entries r
   beside-placed (Ok i) beside = (beside.0, beside.1, low-at i beside.0 beside.1, high-at i beside.0 beside.1)
   beside-placed (Err i) beside = (beside.0, low, high)
     where

@@ -2,7 +2,7 @@
 use Rattle.std.specs.Prelude.{ℕ, zero, suc, List, [], ◌∷◌}
 
 -- the entries of a page, and for how many it has memory
-pub record Contents (K V : Type 0) : Type 0 where
+pub record PageContents (K V : Type 0) : Type 0 where
   pub entries : List (K × V)
   pub capacity : ℕ
 
@@ -14,5 +14,5 @@ module _ {K V : Type 0} where
   set_value_at (entry ∷ entries) (suc place) value = entry ∷ set_value_at entries place value
 
   -- a page with this value at an index
-  abbrev pub with_value : Contents K V → ℕ → V → Contents K V
-  with_value page place value = record { entries = set_value_at page.entries place value; capacity = page.capacity }
+  abbrev pub page_with_value : PageContents K V → ℕ → V → PageContents K V
+  page_with_value page place value = record { entries = set_value_at page.entries place value; capacity = page.capacity }

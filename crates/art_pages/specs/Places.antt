@@ -4,7 +4,7 @@ use Rattle.std.specs.declared.cmp.Ordering.{Ordering}
 use Rattle.std.specs.declared.cmp.Ordering.TheVariants.{Less, Equal, Greater}
 
 -- the query is equal to the entry at an index, or lies between the entry before it and the one at it
-abbrev pub IsBeside : {K V : Type 0} → (K → Ordering) → List (K × V) → Result ℕ ℕ → Type 0
-IsBeside compare entries (Ok index) = (index < length entries) × HoldsAt (λ entry. compare entry.0 ≡ Equal) entries index
-IsBeside compare entries (Err index) =
+abbrev pub IsSearchResult : {K V : Type 0} → (K → Ordering) → List (K × V) → Result ℕ ℕ → Type 0
+IsSearchResult compare entries (Ok index) = (index < length entries) × HoldsAt (λ entry. compare entry.0 ≡ Equal) entries index
+IsSearchResult compare entries (Err index) =
     (index ≤ length entries) × (0 < index → HoldsAt (λ entry. compare entry.0 ≡ Greater) entries (index - 1)) × (index < length entries → HoldsAt (λ entry. compare entry.0 ≡ Less) entries index)

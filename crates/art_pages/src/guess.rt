@@ -1,6 +1,6 @@
 //! Where an entry may be: guesses of an index, and what the entries there say of them.
 ghost use Rattle.std.specs.Prelude.{◌≤◌, length, IfSome};
-ghost use Rattle.art_pages.specs.Places.{IsBeside};
+ghost use Rattle.art_pages.specs.Places.{IsSearchResult};
 
 use art_keys::{RadixKey, RadixQuery};
 use std::cmp::Ordering;
@@ -66,7 +66,7 @@ pub(crate) fn place_near<K: RadixKey, V, Q: RadixQuery<K>>(
     query: Q,
 ) -> Option<Result<usize, usize>>
     requires { index ≤ length pairs.now }
-    ensures { IfSome result (IsBeside (Q.compare query) pairs.now) }
+    ensures { IfSome result (IsSearchResult (Q.compare query) pairs.now) }
 {
     match place_at(pairs, index, query) {
         Some(place) => Some(place),
@@ -83,7 +83,7 @@ fn place_at<K: RadixKey, V, Q: RadixQuery<K>>(
     query: Q,
 ) -> Option<Result<usize, usize>>
     requires { index ≤ length pairs.now }
-    ensures { IfSome result (IsBeside (Q.compare query) pairs.now) }
+    ensures { IfSome result (IsSearchResult (Q.compare query) pairs.now) }
 {
     if index < pairs.len() {
         match query.compare(&pairs[index].0) {

@@ -27,9 +27,9 @@ pub struct Page<K: KeyBytes, V> {
 
 impl<K: KeyBytes, V> Model for Page<K, V> {
     ghost use Rattle.std.specs.Prelude.{vec_capacity};
-    ghost use Rattle.art_pages.specs.Contents.{Contents};
+    ghost use Rattle.art_pages.specs.Contents.{PageContents};
 
-    ghost Value = { Contents K V };
+    ghost Value = { PageContents K V };
 
     ghost use Rattle.art_pages.specs.Entries.{IsOrdered, AreKeys};
 
@@ -45,8 +45,8 @@ impl<K: KeyBytes + Drop, V: Drop> Drop for Page<K, V> {
 }
 
 impl<K: RadixKey, V> Page<K, V> {
-    ghost use Rattle.art_pages.specs.Contents.{with_value};
-    ghost use Rattle.art_pages.specs.Lending.{LendsValue};
+    ghost use Rattle.art_pages.specs.Contents.{page_with_value};
+    ghost use Rattle.art_pages.specs.Lending.{LendsPageValue};
 
     /// A page with no entries. It takes no memory.
     pub fn new(alloc: Global) -> Self
@@ -193,7 +193,7 @@ impl<K: RadixKey, V> Page<K, V> {
     /// The value at an index below `len`, to be changed.
     pub fn value_mut(&mut self, place: usize) -> &mut V
         requires { place < length self.old.entries }
-        ensures* writes_back { sem 𝓛 (LendsValue K.row V.row K.KeyBytes self.entry place result) }
+        ensures* writes_back { sem 𝓛 (LendsPageValue K.row V.row K.KeyBytes self.entry place result) }
         ensures value { option_map (λ entry. entry.1) (slice_get self.old.entries place) ≡ Some result.now }
     {
         &mut self.pairs[place].1
@@ -203,7 +203,7 @@ impl<K: RadixKey, V> Page<K, V> {
     pub fn replace_value(&mut self, place: usize, value: V) -> V
         requires { place < length self.old.entries }
         ensures value { option_map (λ entry. entry.1) (slice_get self.old.entries place) ≡ Some result }
-        ensures page { self.new ≡ with_value self.old place value }
+        ensures page { self.new ≡ page_with_value self.old place value }
     {
         mem::replace(&mut self.pairs[place].1, value)
     }

@@ -13,7 +13,7 @@ use Rattle.art_routes.specs.declared.address.Address.{Address}
 use Rattle.art_routes.specs.AggregateSteps.{FewerOr, IsCovered, IsHalf, NeededUpTo, SaysOfHalf, SaysOfParent, left_behind}
 use Rattle.art_routes.specs.Aggregates.{AreAlike, AreHalves, IsAggregated, IsNeeded, MatchAlike}
 use Rattle.art_routes.specs.Networks.{Block, IsNetwork, contains, covers, is_around, network_order}
-use Rattle.art_routes.specs.Tables.{AreInOrder, IsLongest, IsParent, NoneAround, NoneContains, behind, put_route, value_of, without_route}
+use Rattle.art_routes.specs.Tables.{AreInOrder, IsLongest, IsParent, NoneAround, NoneContains, behind, put_route, route_value, without_route}
 use Rattle.art_routes.proofs.CallLaws.{same_network, tied, ties_itself}
 use Rattle.art_routes.proofs.ChangeLemmas.{turned}
 use Rattle.art_routes.proofs.CoverLemmas.{in-is, is-over}
@@ -351,24 +351,24 @@ module _ {V : Type 0} where
           let wrong : true ≡ false = sym above.around ∙ All-contains (λ r. is_around r.0 network ≡ false) routes other none above.listed in
           absurd (cc)
 
-      value-listed : (more : List (Block × V)) (network : Block) (value : V) → value_of more network ≡ Some value → Contains more (network, value)
+      value-listed : (more : List (Block × V)) (network : Block) (value : V) → route_value more network ≡ Some value → Contains more (network, value)
       value-listed [] network value found = absurd (cc)
       value-listed (route ∷ more) network value found = by_test (is_eq (network_order route.0 network)) refl found (value-listed more network value)
         where
-          by_test : (t : Bool) → is_eq (network_order route.0 network) ≡ t → cond t (Some route.1) (value_of more network) ≡ Some value
-              → (value_of more network ≡ Some value → Contains more (network, value)) → Contains (route ∷ more) (network, value)
+          by_test : (t : Bool) → is_eq (network_order route.0 network) ≡ t → cond t (Some route.1) (route_value more network) ≡ Some value
+              → (route_value more network ≡ Some value → Contains more (network, value)) → Contains (route ∷ more) (network, value)
           by_test true at is rest =
               let values : route.1 ≡ value = cc in
               let networks = same_network route.0 network (tied (network_order route.0 network) at) in
               (0, omega arith, λ i. (networks i, values i))
           by_test false at is rest = let (k, within, there) = rest is in (suc k, omega (arith, within), there)
 
-      none-listed : (more : List (Block × V)) (network : Block) → value_of more network ≡ None → (route : Block × V) → Contains more route → route.0 ≡ network → ⊥
+      none-listed : (more : List (Block × V)) (network : Block) → route_value more network ≡ None → (route : Block × V) → Contains more route → route.0 ≡ network → ⊥
       none-listed [] network none route (k, within, at) same = omega (arith, within)
       none-listed (other ∷ more) network none route there same = by_test (is_eq (network_order other.0 network)) refl none (head-or-rest other more route there) (λ rest listed. none-listed more network rest route listed same)
         where
-          by_test : (t : Bool) → is_eq (network_order other.0 network) ≡ t → cond t (Some other.1) (value_of more network) ≡ None → (other ≡ route) ⊎ Contains more route
-              → (value_of more network ≡ None → Contains more route → ⊥) → ⊥
+          by_test : (t : Bool) → is_eq (network_order other.0 network) ≡ t → cond t (Some other.1) (route_value more network) ≡ None → (other ≡ route) ⊎ Contains more route
+              → (route_value more network ≡ None → Contains more route → ⊥) → ⊥
           by_test true at is side rest = absurd (cc)
           by_test false at is (inl one) rest =
               let wrong : true ≡ false = sym (ap (λ n. is_eq (network_order n network)) (ap (λ (r : Block × V). r.0) one ∙ same) ∙ ap is_eq (ties_itself network)) ∙ at in
@@ -383,17 +383,17 @@ module _ {V : Type 0} where
         pub no-half : IsHalf network None → SaysOfHalf eq routes network value None
         no-half none = λ left whole there halves. absurd (none left.0 whole (listed-is left there) halves)
 
-        pub half-absent : (left whole : Block) → IsHalf network (Some (left, whole)) → value_of routes left ≡ None → SaysOfHalf eq routes network value None
+        pub half-absent : (left whole : Block) → IsHalf network (Some (left, whole)) → route_value routes left ≡ None → SaysOfHalf eq routes network value None
         half-absent left whole (left_is, halves) none = λ other around there also.
             absurd (none-listed routes left none other there (one-left other.0 left network around whole (listed-is other there) left_is is also halves))
 
-        pub half-differs : (left whole : Block) (found : V) → IsHalf network (Some (left, whole)) → value_of routes left ≡ Some found → eq found value ≡ false → SaysOfHalf eq routes network value None
+        pub half-differs : (left whole : Block) (found : V) → IsHalf network (Some (left, whole)) → route_value routes left ≡ Some found → eq found value ≡ false → SaysOfHalf eq routes network value None
         half-differs left whole found (left_is, halves) at differs = λ other around there also.
             let same = one-left other.0 left network around whole (listed-is other there) left_is is also halves in
             let one = one-route routes ordered other (left, found) there (value-listed routes left found at) same in
             ap (λ (r : Block × V). eq r.1 value) one ∙ differs
 
-        pub half-equal : (left whole : Block) (found : V) → IsHalf network (Some (left, whole)) → value_of routes left ≡ Some found → eq found value ≡ true → SaysOfHalf eq routes network value (Some (left, whole))
+        pub half-equal : (left whole : Block) (found : V) → IsHalf network (Some (left, whole)) → route_value routes left ≡ Some found → eq found value ≡ true → SaysOfHalf eq routes network value (Some (left, whole))
         half-equal left whole found (left_is, halves) at test = (found, value-listed routes left found at, halves, test)
 
     -- one route fewer

@@ -6,7 +6,7 @@ use Rattle.std.specs.Ordering.{is_eq, match_ordering, nat_cmp, ordering_then}
 use Rattle.std.specs.declared.cmp.Ordering.{Ordering}
 use Rattle.std.specs.declared.cmp.Ordering.TheVariants.{Less, Equal, Greater}
 use Rattle.art_routes.specs.Networks.{Block, network_order}
-use Rattle.art_routes.specs.Tables.{put_route, put_routes, value_of}
+use Rattle.art_routes.specs.Tables.{put_route, put_routes, route_value}
 
 -- networks that tie are one
 same_number : (v w : ℕ) → nat_cmp v w ≡ Equal → v ≡ w
@@ -41,16 +41,16 @@ tied Greater test = absurd (cc)
 
 module _ {V : Type 0} where
   -- what is found once a route is put
-  pub found_after_put : (routes : List (Block × V)) (network : Block) (value : V) (x : Block) → value_of (put_route routes network value) x ≡ cond (is_eq (network_order network x)) (Some value) (value_of routes x)
+  pub found_after_put : (routes : List (Block × V)) (network : Block) (value : V) (x : Block) → route_value (put_route routes network value) x ≡ cond (is_eq (network_order network x)) (Some value) (route_value routes x)
   found_after_put [] network value x = refl
   found_after_put (other ∷ routes) network value x = by_order (network_order network other.0) refl (found_after_put routes network value x)
     where
-      by_order : (o : Ordering) → network_order network other.0 ≡ o → value_of (put_route routes network value) x ≡ cond (is_eq (network_order network x)) (Some value) (value_of routes x)
-          → value_of (match_ordering o ((network, value) ∷ other ∷ routes) ((network, value) ∷ routes) (other ∷ put_route routes network value)) x ≡ cond (is_eq (network_order network x)) (Some value) (value_of (other ∷ routes) x)
+      by_order : (o : Ordering) → network_order network other.0 ≡ o → route_value (put_route routes network value) x ≡ cond (is_eq (network_order network x)) (Some value) (route_value routes x)
+          → route_value (match_ordering o ((network, value) ∷ other ∷ routes) ((network, value) ∷ routes) (other ∷ put_route routes network value)) x ≡ cond (is_eq (network_order network x)) (Some value) (route_value (other ∷ routes) x)
       by_order Less is rest = refl
       by_order Equal is rest = by_test (is_eq (network_order network x)) refl
         where
-          by_test : (t : Bool) → is_eq (network_order network x) ≡ t → value_of ((network, value) ∷ routes) x ≡ cond (is_eq (network_order network x)) (Some value) (value_of (other ∷ routes) x)
+          by_test : (t : Bool) → is_eq (network_order network x) ≡ t → route_value ((network, value) ∷ routes) x ≡ cond (is_eq (network_order network x)) (Some value) (route_value (other ∷ routes) x)
           by_test true at = rw at refl
           by_test false at =
               let differ : is_eq (network_order other.0 x) ≡ false = ap (λ n. is_eq (network_order n x)) (sym (same_network network other.0 is)) ∙ at in
@@ -58,7 +58,7 @@ module _ {V : Type 0} where
       by_order Greater is rest = by_test (is_eq (network_order other.0 x)) refl
         where
           by_test : (t : Bool) → is_eq (network_order other.0 x) ≡ t
-              → value_of (other ∷ put_route routes network value) x ≡ cond (is_eq (network_order network x)) (Some value) (value_of (other ∷ routes) x)
+              → route_value (other ∷ put_route routes network value) x ≡ cond (is_eq (network_order network x)) (Some value) (route_value (other ∷ routes) x)
           by_test true at =
               let same = same_network other.0 x (tied (network_order other.0 x) at) in
               let differ : is_eq (network_order network x) ≡ false = ap (λ n. is_eq (network_order network n)) (sym same) ∙ ap is_eq is in
@@ -72,12 +72,12 @@ module _ {V : Type 0} where
 
   module _ (network : Block) where
     -- a network that has no route is that of none that were put
-    none_after : (routes more : List (Block × V)) → value_of (put_routes routes more) network ≡ None → (value_of routes network ≡ None) × All (λ route. route.0 ≢ network) more
+    none_after : (routes more : List (Block × V)) → route_value (put_routes routes more) network ≡ None → (route_value routes network ≡ None) × All (λ route. route.0 ≢ network) more
     none_after routes [] none = (none, All-nil (λ (route : Block × V). route.0 ≢ network))
     none_after routes (first ∷ more) none = by_test (is_eq (network_order first.0 network)) refl (none_after (put_route routes first.0 first.1) more none)
       where
-        by_test : (t : Bool) → is_eq (network_order first.0 network) ≡ t → (value_of (put_route routes first.0 first.1) network ≡ None) × All (λ route. route.0 ≢ network) more
-            → (value_of routes network ≡ None) × All (λ route. route.0 ≢ network) (first ∷ more)
+        by_test : (t : Bool) → is_eq (network_order first.0 network) ≡ t → (route_value (put_route routes first.0 first.1) network ≡ None) × All (λ route. route.0 ≢ network) more
+            → (route_value routes network ≡ None) × All (λ route. route.0 ≢ network) (first ∷ more)
         by_test true at rest =
             let wrong : Some first.1 ≡ None = sym (found_after_put routes first.0 first.1 network ∙ rw at refl) ∙ rest.0 in
             absurd (cc)
@@ -87,15 +87,15 @@ module _ {V : Type 0} where
               (λ same. let wrong : true ≡ false = sym (ap is_eq (ap (λ n. network_order n network) same ∙ ties_itself network)) ∙ at in absurd (cc)) rest.1,
         )
 
-    pub none_among : (routes : List (Block × V)) → value_of (put_routes [] routes) network ≡ None → All (λ route. route.0 ≢ network) routes
+    pub none_among : (routes : List (Block × V)) → route_value (put_routes [] routes) network ≡ None → All (λ route. route.0 ≢ network) routes
     none_among routes none = (none_after [] routes none).1
 
     -- a value that is found is that of a route that was put
-    one_after : (routes more : List (Block × V)) (value : V) → value_of (put_routes routes more) network ≡ Some value → Contains more (network, value) ⊎ (value_of routes network ≡ Some value)
+    one_after : (routes more : List (Block × V)) (value : V) → route_value (put_routes routes more) network ≡ Some value → Contains more (network, value) ⊎ (route_value routes network ≡ Some value)
     one_after routes [] value found = inr found
     one_after routes (first ∷ more) value found = by_side (one_after (put_route routes first.0 first.1) more value found)
       where
-        by_test : value_of (put_route routes first.0 first.1) network ≡ Some value → (t : Bool) → is_eq (network_order first.0 network) ≡ t → Contains (first ∷ more) (network, value) ⊎ (value_of routes network ≡ Some value)
+        by_test : route_value (put_route routes first.0 first.1) network ≡ Some value → (t : Bool) → is_eq (network_order first.0 network) ≡ t → Contains (first ∷ more) (network, value) ⊎ (route_value routes network ≡ Some value)
         by_test is true at =
             let some : Some first.1 ≡ Some value = sym (found_after_put routes first.0 first.1 network ∙ rw at refl) ∙ is in
             let values : first.1 ≡ value = cc in
@@ -104,13 +104,13 @@ module _ {V : Type 0} where
             inl (subst (λ (route : Block × V). Contains (first ∷ more) route) both (0, omega arith, refl))
         by_test is false at = inr (sym (found_after_put routes first.0 first.1 network ∙ rw at refl) ∙ is)
 
-        by_side : Contains more (network, value) ⊎ (value_of (put_route routes first.0 first.1) network ≡ Some value) → Contains (first ∷ more) (network, value) ⊎ (value_of routes network ≡ Some value)
+        by_side : Contains more (network, value) ⊎ (route_value (put_route routes first.0 first.1) network ≡ Some value) → Contains (first ∷ more) (network, value) ⊎ (route_value routes network ≡ Some value)
         by_side (inl there) = inl (Contains-append_right (first ∷ []) more (network, value) there)
         by_side (inr here) = by_test here (is_eq (network_order first.0 network)) refl
 
-    pub one_among : (routes : List (Block × V)) (value : V) → value_of (put_routes [] routes) network ≡ Some value → Contains routes (network, value)
+    pub one_among : (routes : List (Block × V)) (value : V) → route_value (put_routes [] routes) network ≡ Some value → Contains routes (network, value)
     one_among routes value found = by_side (one_after [] routes value found)
       where
-        by_side : Contains routes (network, value) ⊎ (value_of [] network ≡ Some value) → Contains routes (network, value)
+        by_side : Contains routes (network, value) ⊎ (route_value [] network ≡ Some value) → Contains routes (network, value)
         by_side (inl there) = there
         by_side (inr wrong) = absurd (cc)

@@ -1,5 +1,5 @@
 -- A leaf that is held, and one with another value.
-use Rattle.art_routes.proofs.LeafNames.{Changes, HeldLeaf, IsAlone, LeafNode, List, NodeArena, None, Nothing, OpaqueNodePtr, Option, Some, Tree, ap, held, held_leaf, leaf_at, opaque_pointer, refl, spells-exchanged, stands-exchanged, sym, ℕ, ◌∙◌, ◌≡◌, ◌≢◌}
+use Rattle.art_routes.proofs.LeafNames.{Changes, HeldLeaf, IsAlone, LeafNode, List, NodeArena, None, Nothing, OpaqueNodePtr, Option, Some, Tree, ap, held, held_leaf, leaf_at, list-exchanged, opaque_pointer, refl, stands-exchanged, sym, ℕ, ◌∙◌, ◌≡◌, ◌≢◌}
 use Rattle.art_header.specs.declared.node_type.NodeType.TheVariants as kinds
 use Rattle.art_nodes.specs.Leaf.{with_value}
 
@@ -18,6 +18,6 @@ module _ {K V : Type 0} {P : ℕ} (text : K → List ℕ) (old new : NodeArena K
     is_tree = record { at_root = alone.is_tree.at_root; stands = stands-exchanged text old new key leaf (with_value leaf value) there changes tree refl alone.is_tree.stands; sound = alone.is_tree.sound };
     smallest_kinds = alone.smallest_kinds;
     short = alone.short;
-    spelled = spells-exchanged old new key leaf (with_value leaf value) there changes refl refl _ alone.spelled;
+    is_linked = list-exchanged old new key leaf (with_value leaf value) there changes refl refl _ alone.is_linked;
     no_others = λ pointer is_held. alone.no_others pointer (λ none. is_held (changes.others pointer (not-this pointer none) ∙ none));
   }

@@ -12,7 +12,7 @@ use Rattle.art_routes.specs.declared.difference.Change.TheVariants.{Insert, Remo
 use Rattle.art_routes.specs.Changes.{AreOneIfEqual, ChangesAreInOrder, change_between, change_to, network_of, with_change, with_changes}
 use Rattle.art_routes.specs.Differences.{differences, differences_from}
 use Rattle.art_routes.specs.Networks.{Block, network_order}
-use Rattle.art_routes.specs.Tables.{AreInOrder, put_route, value_of, without_route}
+use Rattle.art_routes.specs.Tables.{AreInOrder, put_route, route_value, without_route}
 use Rattle.art_routes.proofs.CallLaws.{same_network, tied, ties_itself}
 
 order_total : IsTotalOrder network_order
@@ -58,10 +58,10 @@ module _ {V : Type 0} where
   climbs low high [] less above = tt
   climbs low high (route ∷ routes) less above = (order_total.trans low high route.0 less above.0, climbs low high routes less above.1)
 
-  none-above : (network : Block) (routes : List (Block × V)) → Above network routes → value_of routes network ≡ None
+  none-above : (network : Block) (routes : List (Block × V)) → Above network routes → route_value routes network ≡ None
   none-above network [] above = refl
   none-above network (route ∷ routes) above =
-      ap (λ o. cond (is_eq o) (Some route.1) (value_of routes network)) (turned network route.0 above.0) ∙ none-above network routes above.1
+      ap (λ o. cond (is_eq o) (Some route.1) (route_value routes network)) (turned network route.0 above.0) ∙ none-above network routes above.1
 
   -- the changes are to networks behind this one
   abbrev AboveChanges : Block → List (Change V) → Type 0
@@ -214,31 +214,31 @@ module _ {V : Type 0} where
       one-of : (network : Block) → is_eq (network_order network x) ≡ true → network ≡ x
       one-of network at = same_network network x (tied (network_order network x) at)
 
-      none-behind : (network : Block) (routes : List (Block × V)) → is_eq (network_order network x) ≡ true → Above network routes → value_of routes x ≡ None
+      none-behind : (network : Block) (routes : List (Block × V)) → is_eq (network_order network x) ≡ true → Above network routes → route_value routes x ≡ None
       none-behind network routes at above = none-above x routes (subst (λ n. Above n routes) (one-of network at) above)
 
-      each-insert : (others : List (Block × V)) → change_to x (inserts others) ≡ change_between eq x None (value_of others x)
+      each-insert : (others : List (Block × V)) → change_to x (inserts others) ≡ change_between eq x None (route_value others x)
       each-insert [] = refl
       each-insert (other ∷ others) = by_test (each-insert others) (is_eq (network_order other.0 x)) refl
         where
-          by_test : change_to x (inserts others) ≡ change_between eq x None (value_of others x) → (t : Bool) → is_eq (network_order other.0 x) ≡ t
-              → cond t (Some (Insert other.0 other.1)) (change_to x (inserts others)) ≡ change_between eq x None (cond t (Some other.1) (value_of others x))
+          by_test : change_to x (inserts others) ≡ change_between eq x None (route_value others x) → (t : Bool) → is_eq (network_order other.0 x) ≡ t
+              → cond t (Some (Insert other.0 other.1)) (change_to x (inserts others)) ≡ change_between eq x None (cond t (Some other.1) (route_value others x))
           by_test further true at = ap (λ n. Some (Insert n other.1)) (one-of other.0 at)
           by_test further false at = further
 
       module _ (route : Block × V) (routes : List (Block × V)) (first : Above route.0 routes) where
-        each-from : ((others : List (Block × V)) → Ordered others → change_to x (differences eq routes others) ≡ change_between eq x (value_of routes x) (value_of others x))
-            → (others : List (Block × V)) → Ordered others → change_to x (differences_from eq route (differences eq routes) others) ≡ change_between eq x (value_of (route ∷ routes) x) (value_of others x)
+        each-from : ((others : List (Block × V)) → Ordered others → change_to x (differences eq routes others) ≡ change_between eq x (route_value routes x) (route_value others x))
+            → (others : List (Block × V)) → Ordered others → change_to x (differences_from eq route (differences eq routes) others) ≡ change_between eq x (route_value (route ∷ routes) x) (route_value others x)
         each-from rest [] are = by_test (is_eq (network_order route.0 x)) refl
           where
             by_test : (t : Bool) → is_eq (network_order route.0 x) ≡ t
-                → cond t (Some (Remove route.0 route.1)) (change_to x (differences eq routes [])) ≡ change_between eq x (cond t (Some route.1) (value_of routes x)) None
+                → cond t (Some (Remove route.0 route.1)) (change_to x (differences eq routes [])) ≡ change_between eq x (cond t (Some route.1) (route_value routes x)) None
             by_test true at = ap (λ n. Some (Remove n route.1)) (one-of route.0 at)
             by_test false at = rest [] tt
         each-from rest (other ∷ others) are = by_order (each-from rest others are.1) (network_order route.0 other.0) refl
           where
             removed : network_order route.0 other.0 ≡ Less → (t : Bool) → is_eq (network_order route.0 x) ≡ t
-                → cond t (Some (Remove route.0 route.1)) (change_to x (differences eq routes (other ∷ others))) ≡ change_between eq x (cond t (Some route.1) (value_of routes x)) (value_of (other ∷ others) x)
+                → cond t (Some (Remove route.0 route.1)) (change_to x (differences eq routes (other ∷ others))) ≡ change_between eq x (cond t (Some route.1) (route_value routes x)) (route_value (other ∷ others) x)
             removed less true at =
                 ap (λ n. Some (Remove n route.1)) (one-of route.0 at)
                 ∙ ap (λ v. change_between eq x (Some route.1) v) (sym (none-behind route.0 (other ∷ others) at (less, climbs route.0 other.0 others less are.0)))
@@ -252,40 +252,40 @@ module _ {V : Type 0} where
             same-at at also false = ap (λ t. cond t (Some (Replace other.0 other.1)) (change_to x (differences eq routes others))) also ∙ ap (λ n. Some (Replace n other.1)) (one-of other.0 also)
 
             other-at : is_eq (network_order other.0 x) ≡ false → (s : Bool)
-                → change_to x (cond s (differences eq routes others) (Replace other.0 other.1 ∷ differences eq routes others)) ≡ change_between eq x (value_of routes x) (value_of others x)
+                → change_to x (cond s (differences eq routes others) (Replace other.0 other.1 ∷ differences eq routes others)) ≡ change_between eq x (route_value routes x) (route_value others x)
             other-at not_it true = rest others are.1
             other-at not_it false = ap (λ t. cond t (Some (Replace other.0 other.1)) (change_to x (differences eq routes others))) not_it ∙ rest others are.1
 
             replaced : network_order route.0 other.0 ≡ Equal → (t : Bool) → is_eq (network_order route.0 x) ≡ t → is_eq (network_order other.0 x) ≡ t
                 → change_to x (cond (eq route.1 other.1) (differences eq routes others) (Replace other.0 other.1 ∷ differences eq routes others))
-                ≡ change_between eq x (cond t (Some route.1) (value_of routes x)) (cond t (Some other.1) (value_of others x))
+                ≡ change_between eq x (cond t (Some route.1) (route_value routes x)) (cond t (Some other.1) (route_value others x))
             replaced tie true at also = same-at at also (eq route.1 other.1)
             replaced tie false at also = other-at also (eq route.1 other.1)
 
-            added : change_to x (differences_from eq route (differences eq routes) others) ≡ change_between eq x (value_of (route ∷ routes) x) (value_of others x)
+            added : change_to x (differences_from eq route (differences eq routes) others) ≡ change_between eq x (route_value (route ∷ routes) x) (route_value others x)
                 → network_order route.0 other.0 ≡ Greater → (t : Bool) → is_eq (network_order other.0 x) ≡ t
-                → cond t (Some (Insert other.0 other.1)) (change_to x (differences_from eq route (differences eq routes) others)) ≡ change_between eq x (value_of (route ∷ routes) x) (cond t (Some other.1) (value_of others x))
+                → cond t (Some (Insert other.0 other.1)) (change_to x (differences_from eq route (differences eq routes) others)) ≡ change_between eq x (route_value (route ∷ routes) x) (cond t (Some other.1) (route_value others x))
             added further greater true at =
                 let less = turned-back route.0 other.0 greater in
                 ap (λ n. Some (Insert n other.1)) (one-of other.0 at)
                 ∙ ap (λ v. change_between eq x v (Some other.1)) (sym (none-behind other.0 (route ∷ routes) at (less, climbs other.0 route.0 routes less first)))
             added further greater false at = further
 
-            by_order : change_to x (differences_from eq route (differences eq routes) others) ≡ change_between eq x (value_of (route ∷ routes) x) (value_of others x)
+            by_order : change_to x (differences_from eq route (differences eq routes) others) ≡ change_between eq x (route_value (route ∷ routes) x) (route_value others x)
                 → (o : Ordering) → network_order route.0 other.0 ≡ o
                 → change_to x (match_ordering o (Remove route.0 route.1 ∷ differences eq routes (other ∷ others)) (cond (eq route.1 other.1) (differences eq routes others) (Replace other.0 other.1 ∷ differences eq routes others))
                 (Insert other.0 other.1 ∷ differences_from eq route (differences eq routes) others))
-                ≡ change_between eq x (value_of (route ∷ routes) x) (value_of (other ∷ others) x)
+                ≡ change_between eq x (route_value (route ∷ routes) x) (route_value (other ∷ others) x)
             by_order further Less is = removed is (is_eq (network_order route.0 x)) refl
             by_order further Equal is =
                 let also : is_eq (network_order other.0 x) ≡ is_eq (network_order route.0 x) = ap (λ n. is_eq (network_order n x)) (sym (same_network route.0 other.0 is)) in
                 replaced is (is_eq (network_order route.0 x)) refl also
-                ∙ ap (λ t. change_between eq x (value_of (route ∷ routes) x) (cond t (Some other.1) (value_of others x))) (sym also)
+                ∙ ap (λ t. change_between eq x (route_value (route ∷ routes) x) (cond t (Some other.1) (route_value others x))) (sym also)
             by_order further Greater is = added further is (is_eq (network_order other.0 x)) refl
 
-      each-both : (routes others : List (Block × V)) → Ordered routes → Ordered others → change_to x (differences eq routes others) ≡ change_between eq x (value_of routes x) (value_of others x)
+      each-both : (routes others : List (Block × V)) → Ordered routes → Ordered others → change_to x (differences eq routes others) ≡ change_between eq x (route_value routes x) (route_value others x)
       each-both [] others all are = each-insert others
       each-both (route ∷ routes) others all are = each-from route routes all.0 (λ more also. each-both routes more all.1 also) others are
 
-    pub each : (routes others : List (Block × V)) → AreInOrder routes → AreInOrder others → (x : Block) → change_to x (differences eq routes others) ≡ change_between eq x (value_of routes x) (value_of others x)
+    pub each : (routes others : List (Block × V)) → AreInOrder routes → AreInOrder others → (x : Block) → change_to x (differences eq routes others) ≡ change_between eq x (route_value routes x) (route_value others x)
     each routes others all are x = each-both x routes others (ordered routes all) (ordered others are)

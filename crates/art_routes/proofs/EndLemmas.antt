@@ -10,9 +10,9 @@ use Rattle.art_routes.specs.declared.address.Address.{Address}
 use Rattle.art_routes.specs.declared.ends.TheConstants.{SHORTER}
 use Rattle.art_routes.specs.Ends.{HasByte, HasChild, IsKeyOf, IsLongest, IsNextChild, IsNextEnd, NoEndOf, shorter}
 use Rattle.art_routes.specs.KeyLaws.{family_most}
-use Rattle.art_routes.specs.Keys.{end_byte, key_text, left}
+use Rattle.art_routes.specs.Keys.{key_text, last_network_byte, left}
 use Rattle.art_routes.specs.StrideLaws.{strides_long}
-use Rattle.art_routes.specs.Strides.{behind, kept, stride_at, strides, symbol}
+use Rattle.art_routes.specs.Strides.{bits_behind, kept, stride_at, strides, symbol}
 use Rattle.art_routes.specs.Ways.{IsEndAt, IsLastEnd, NoEnd}
 
 -- of each number below one
@@ -229,17 +229,17 @@ if-some (Some x) f is = f x is
 -- ---- the ends at a place of a key
 stride-fits : (place number : ℕ) → number < 2 ^ 128 → stride_at place number < 128
 stride-fits zero number fits = omega arith
-stride-fits (suc place) number fits = stride-fits place (behind number) (omega arith)
+stride-fits (suc place) number fits = stride-fits place (bits_behind number) (omega arith)
 
 -- the bytes of a number, one after another
 stride-byte : (count rest number place : ℕ) → place < count → get_or (strides count rest number) place 0 ≡ symbol (stride_at place number) 7
 stride-byte zero rest number place less = absurd (omega (arith, less))
 stride-byte (suc count) rest number zero less = refl
-stride-byte (suc count) rest number (suc place) less = stride-byte count rest (behind number) place (omega (arith, less))
+stride-byte (suc count) rest number (suc place) less = stride-byte count rest (bits_behind number) place (omega (arith, less))
 
 last-byte : (count rest number : ℕ) → get_or (strides count rest number) count 0 ≡ symbol (kept rest (stride_at count number)) rest
 last-byte zero rest number = refl
-last-byte (suc count) rest number = last-byte count rest (behind number)
+last-byte (suc count) rest number = last-byte count rest (bits_behind number)
 
 module _ (address : Address) (family : (address.width ≡ 32) ⊎ (address.width ≡ 128)) (fits : address.bits < 2 ^ address.width) where
   left-fits : left address < 2 ^ 128
@@ -248,41 +248,41 @@ module _ (address : Address) (family : (address.width ≡ 32) ⊎ (address.width
       subst (λ e. left address < 2 ^ e) sum (shl_below address.bits address.width (128 - address.width) fits)
 
   -- the byte of fewer bits
-  end-shorter : (place rest : ℕ) → rest < 7 → get_or SHORTER (symbol (kept (suc rest) (stride_at place (left address))) (suc rest)) 0 ≡ end_byte address place rest
-  unfolding end_byte
+  end-shorter : (place rest : ℕ) → rest < 7 → get_or SHORTER (symbol (kept (suc rest) (stride_at place (left address))) (suc rest)) 0 ≡ last_network_byte address place rest
+  unfolding last_network_byte
   end-shorter place rest few = one-fewer (stride_at place (left address)) rest (stride-fits place (left address) left-fits) few
 
-  next-shorter : (place rest : ℕ) → rest < 7 → get_or SHORTER (end_byte address place (suc rest)) 0 ≡ end_byte address place rest
-  unfolding end_byte
+  next-shorter : (place rest : ℕ) → rest < 7 → get_or SHORTER (last_network_byte address place (suc rest)) 0 ≡ last_network_byte address place rest
+  unfolding last_network_byte
   next-shorter place rest few = end-shorter place rest few
 
-  shorter-ends : (place rest fewer : ℕ) → rest < 7 → fewer ≤ rest → shorter fewer (end_byte address place rest) ≡ end_byte address place (rest - fewer)
+  shorter-ends : (place rest fewer : ℕ) → rest < 7 → fewer ≤ rest → shorter fewer (last_network_byte address place rest) ≡ last_network_byte address place (rest - fewer)
   shorter-ends place rest zero few less =
       let whole : rest - 0 ≡ rest = omega arith in
-      shorter-none (end_byte address place rest) ∙ ap (end_byte address place) (sym whole)
+      shorter-none (last_network_byte address place rest) ∙ ap (last_network_byte address place) (sym whole)
   shorter-ends place rest (suc fewer) few less =
       let one : suc (rest - suc fewer) ≡ rest - fewer = omega (arith, less) in
-      shorter-next fewer (end_byte address place rest)
-      ∙ ap (λ end. get_or SHORTER end 0) (shorter-ends place rest fewer few (omega (arith, less)) ∙ ap (end_byte address place) (sym one))
+      shorter-next fewer (last_network_byte address place rest)
+      ∙ ap (λ end. get_or SHORTER end 0) (shorter-ends place rest fewer few (omega (arith, less)) ∙ ap (last_network_byte address place) (sym one))
       ∙ next-shorter place (rest - suc fewer) (omega (arith, few))
 
-  no-bits : (place : ℕ) → end_byte address place 0 ≡ 0
-  unfolding end_byte
+  no-bits : (place : ℕ) → last_network_byte address place 0 ≡ 0
+  unfolding last_network_byte
   no-bits place = let less = stride-fits place (left address) left-fits in omega (arith, less)
 
   module _ {H : Type 0} (children : ChildMap H) (most place longest : ℕ) (end : IsLongest address most place longest) where
     few-bits : end.rest < 7
     few-bits = end.at.few
 
-    at-other : (other : ℕ) → other ≤ end.rest → shorter (end.rest - other) longest ≡ end_byte address (place - 1) other
+    at-other : (other : ℕ) → other ≤ end.rest → shorter (end.rest - other) longest ≡ last_network_byte address (place - 1) other
     at-other other less =
         let back : end.rest - (end.rest - other) ≡ other = omega (arith, less) in
-        ap (shorter (end.rest - other)) end.is ∙ shorter-ends (place - 1) end.rest (end.rest - other) few-bits (omega arith) ∙ ap (end_byte address (place - 1)) back
+        ap (shorter (end.rest - other)) end.is ∙ shorter-ends (place - 1) end.rest (end.rest - other) few-bits (omega arith) ∙ ap (last_network_byte address (place - 1)) back
 
     -- no child of one of them
     pub no-end : NoEndOf (HasChild children) longest → NoEnd address most place children
     no-end none other is =
-        no-child-is children (end_byte address (place - 1) other)
+        no-child-is children (last_network_byte address (place - 1) other)
         (λ there. none (end.rest - other) (subst (HasChild children) (sym (at-other other (end.longest other is))) there))
 
     -- the first child of one of them is that of the longest
@@ -293,7 +293,7 @@ module _ (address : Address) (family : (address.width ≡ 32) ⊎ (address.width
       is = ap (child_at children) (sym here ∙ next.is) ∙ is;
       last = λ other more ends.
           let less = end.longest other ends in
-          no-child-is children (end_byte address (place - 1) other)
+          no-child-is children (last_network_byte address (place - 1) other)
           (λ there. next.first (end.rest - other) (omega (arith, more, less, not-beyond)) (subst (HasChild children) (sym (at-other other less)) there));
     }
       where
@@ -309,7 +309,7 @@ module _ (address : Address) (family : (address.width ≡ 32) ⊎ (address.width
           | inr not_beyond ↦ not_beyond
         ]
 
-        here : shorter next.fewer longest ≡ end_byte address (place - 1) (end.rest - next.fewer)
+        here : shorter next.fewer longest ≡ last_network_byte address (place - 1) (end.rest - next.fewer)
         here = ap (shorter next.fewer) end.is ∙ shorter-ends (place - 1) end.rest next.fewer few-bits not-beyond
 
 -- ---- the longest end
@@ -324,7 +324,7 @@ module _ (key : List ℕ) (address : Address) (most : ℕ) (of : IsKeyOf key add
 
   -- at its last byte
   pub last-longest : (place : ℕ) → 1 ≤ place → length key ≤ place + 1 → place < length key → IsLongest address most place (get_or key place 0)
-  unfolding key_text end_byte
+  unfolding key_text last_network_byte
   last-longest place some last within =
       let same : place ≡ suc (most / 7) = omega (arith, key-long, last, within) in
       let before : place - 1 ≡ most / 7 = omega (arith, same) in
@@ -332,7 +332,7 @@ module _ (key : List ℕ) (address : Address) (most : ℕ) (of : IsKeyOf key add
         rest = most % 7;
         at = record { some = some; few = omega arith; fits = omega (arith, before) };
         is = ap (λ k. get_or k place 0) of.key_is ∙ ap (λ n. get_or (key_text (record { address = address; length = most })) n 0) same
-            ∙ last-byte (most / 7) (most % 7) (left address) ∙ ap (λ n. end_byte address n (most % 7)) (sym before);
+            ∙ last-byte (most / 7) (most % 7) (left address) ∙ ap (λ n. last_network_byte address n (most % 7)) (sym before);
         longest = λ other end. let fit = end.fits in omega (arith, fit, before);
       }
 

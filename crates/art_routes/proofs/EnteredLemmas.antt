@@ -7,7 +7,7 @@ use Rattle.art_routes.specs.TreeEntries.{set_value}
 use Rattle.art_routes.specs.TreeEntries.{entries_with_value, entry_with}
 use Rattle.art_routes.specs.Keys.{key_text}
 use Rattle.art_routes.specs.Networks.{Block, IsNetwork, network_order}
-use Rattle.art_routes.specs.Tables.{AreInOrder, put_route, routes_with_value, value_of}
+use Rattle.art_routes.specs.Tables.{AreInOrder, put_route, route_value, routes_with_value}
 use Rattle.art_routes.proofs.PutAgainLemmas.{with-is-put}
 use Rattle.art_routes.proofs.RouteLemmas.{AreNetworks, put-at, put-networks, value-at, with-at, with-networks, x-is}
 use Rattle.art_routes.proofs.ResultLemmas.{none_from}
@@ -34,13 +34,13 @@ module _ {V : Type 0} (entries routes : List (Block × V)) (view_is : entries �
       by_test false none = put-at entries routes view_is all x network is written value
 
 -- without a route to a network another value for it changes nothing
-pub no-value-changes : {V : Type 0} (network : Block) (value : V) (routes : List (Block × V)) → value_of routes network ≡ None → routes_with_value routes network value ≡ routes
+pub no-value-changes : {V : Type 0} (network : Block) (value : V) (routes : List (Block × V)) → route_value routes network ≡ None → routes_with_value routes network value ≡ routes
 no-value-changes network value [] none = refl
 no-value-changes network value (route ∷ routes) none = by_test (is_eq (network_order route.0 network)) refl none (no-value-changes network value routes)
   where
-    by_test : (t : Bool) → is_eq (network_order route.0 network) ≡ t → value_of (route ∷ routes) network ≡ None → (value_of routes network ≡ None → routes_with_value routes network value ≡ routes) → routes_with_value (route ∷ routes) network value ≡ route ∷ routes
+    by_test : (t : Bool) → is_eq (network_order route.0 network) ≡ t → route_value (route ∷ routes) network ≡ None → (route_value routes network ≡ None → routes_with_value routes network value ≡ routes) → routes_with_value (route ∷ routes) network value ≡ route ∷ routes
     by_test true at none rest = let wrong : Some route.1 ≡ None = rw at at none in absurd (cc)
-    by_test false at none rest = let later : value_of routes network ≡ None = rw at at none in rw at (ap (λ more. route ∷ more) (rest later))
+    by_test false at none rest = let later : route_value routes network ≡ None = rw at at none in rw at (ap (λ more. route ∷ more) (rest later))
 
 -- what holds where there is something holds
 pub some-there : {X : Type 0} (o : Option X) (x : X) (P : Type 0) → o ≡ Some x → OnSome o P → P

@@ -13,7 +13,7 @@ use Rattle.std.proofs.lemmas.List.Kept.{AllPairs-cons, AllPairs-filter}
 use Rattle.std.proofs.lemmas.Nat.{mod_low, pow_pos, shl-shr}
 use Rattle.art_routes.specs.declared.address.Address.{Address}
 use Rattle.art_routes.specs.FreeNetworks.{BeginsBehind, IsFree, overlaps}
-use Rattle.art_routes.specs.FreeWalks.{IsBefore, IsBehind, IsFirst, IsFreeWalk, IsNext, Overlapping, free_left, is_free, part_at, parts_from, parts_up_to}
+use Rattle.art_routes.specs.FreeWalks.{IsBefore, IsBehind, IsFirstInside, IsFreeWalk, IsNextInside, Overlapping, free_left, is_free, part_at, parts_from, parts_up_to}
 use Rattle.art_routes.specs.KeyLaws.{width_most}
 use Rattle.art_routes.specs.Keys.{last_network}
 use Rattle.art_routes.specs.Networks.{Block, IsNetwork, covers, contains, first_bits, network_around, network_order}
@@ -448,21 +448,21 @@ module _ {V : Type 0} (routes : List (Block × V)) (network : Block) (is : IsNet
         free-left first_place part free (omega (arith, least_bits, div-mul-le_self network.address.bits (2 ^ k)))
 
   -- what the walk begins with
-  pub walk-starts : (next : Option Block) → IsFirst network size next → IsFreeWalk last_bits next
+  pub walk-starts : (next : Option Block) → IsFirstInside network size next → IsFreeWalk last_bits next
   walk-starts None outside = tt
   walk-starts (Some first) (least, fits, at) = subst (λ p. IsBefore last_bits p) (sym at) (first-before least fits)
 
-  pub walk-ascends : (next : Option Block) → IsFirst network size next → AllPairs (λ a b. network_order a b ≡ Less) (free_left routes last_bits next)
+  pub walk-ascends : (next : Option Block) → IsFirstInside network size next → AllPairs (λ a b. network_order a b ≡ Less) (free_left routes last_bits next)
   walk-ascends None outside = λ i j d less inside. absurd (omega (arith, inside))
   walk-ascends (Some first) (least, fits, at) =
       subst (λ all. AllPairs (λ a b. network_order a b ≡ Less) all) (sym (ap (λ p. free_left routes last_bits (Some p)) at ∙ starts-left least fits)) (ascend-from least fits (first_place least fits))
 
-  pub walk-is-free : (next : Option Block) → IsFirst network size next → (part : Block) → Contains (free_left routes last_bits next) part → IsFree routes network size part
+  pub walk-is-free : (next : Option Block) → IsFirstInside network size next → (part : Block) → Contains (free_left routes last_bits next) part → IsFree routes network size part
   walk-is-free None outside part (k, within, at) = absurd (omega (arith, within))
   walk-is-free (Some first) (least, fits, at) part there =
       (left-free least fits (first_place least fits) (omega arith) part (subst (λ all. Contains all part) (ap (λ p. free_left routes last_bits (Some p)) at ∙ starts-left least fits) there)).0
 
-  pub free-is-walked : (next : Option Block) → IsFirst network size next → (part : Block) → IsFree routes network size part → Contains (free_left routes last_bits next) part
+  pub free-is-walked : (next : Option Block) → IsFirstInside network size next → (part : Block) → IsFree routes network size part → Contains (free_left routes last_bits next) part
   free-is-walked None outside part free = absurd (none-free outside part free)
   free-is-walked (Some first) (least, fits, at) part free =
       subst (λ all. Contains all part) (sym (ap (λ p. free_left routes last_bits (Some p)) at ∙ starts-left least fits)) (all-free least fits part free)
@@ -478,7 +478,7 @@ module _ {V : Type 0} (routes : List (Block × V)) (network : Block) (is : IsNet
     under : last_bits < 2 ^ after.address.width
     under = subst (λ w. last_bits < 2 ^ w) (sym one_width) (last-is network is).bits
 
-    pub next-walks : (next : Option Block) → IsNext network size after next → IsFreeWalk last_bits next
+    pub next-walks : (next : Option Block) → IsNextInside network size after next → IsFreeWalk last_bits next
     next-walks next (inl (behind, least, fits)) = behind-walks end size last_bits next after_is.family (omega (arith, fits, one_width)) under behind
     next-walks next (inr (none, outside)) = subst (λ n. IsFreeWalk last_bits n) (sym none) tt
 
@@ -518,13 +518,13 @@ module _ {V : Type 0} (routes : List (Block × V)) (network : Block) (is : IsNet
               let low = mul-le-mul_right (2 ^ k least fits) no_less in
               absurd (omega (arith, low, whole, behind, div-mul-le_self end.bits (2 ^ k least fits)))
 
-    pub next-ascends : (next : Option Block) → IsNext network size after next → AllPairs (λ a b. network_order a b ≡ Less) (free_left routes last_bits next)
+    pub next-ascends : (next : Option Block) → IsNextInside network size after next → AllPairs (λ a b. network_order a b ≡ Less) (free_left routes last_bits next)
     next-ascends next (inl (behind, least, fits)) =
         subst (λ all. AllPairs (λ a b. network_order a b ≡ Less) all) (sym (next-left least fits next behind)) (ascend-from least fits (start least fits))
     next-ascends next (inr (none, outside)) =
         subst (λ n. AllPairs (λ a b. network_order a b ≡ Less) (free_left routes last_bits n)) (sym none) (λ i j d less inside. absurd (omega (arith, inside)))
 
-    pub next-is-free : (next : Option Block) → IsNext network size after next → (part : Block) → Contains (free_left routes last_bits next) part → IsFree routes network size part × BeginsBehind after part
+    pub next-is-free : (next : Option Block) → IsNextInside network size after next → (part : Block) → Contains (free_left routes last_bits next) part → IsFree routes network size part × BeginsBehind after part
     next-is-free next (inl (behind, least, fits)) part there =
         let found = left-free least fits (start least fits) (not-before least fits) part (subst (λ all. Contains all part) (next-left least fits next behind) there) in
         (found.0, behind-it least fits part found.1)
@@ -532,7 +532,7 @@ module _ {V : Type 0} (routes : List (Block × V)) (network : Block) (is : IsNet
         let (j, within, at) = subst (λ n. Contains (free_left routes last_bits n) part) none there in
         absurd (omega (arith, within))
 
-    pub free-is-next : (next : Option Block) → IsNext network size after next → (part : Block) → IsFree routes network size part × BeginsBehind after part → Contains (free_left routes last_bits next) part
+    pub free-is-next : (next : Option Block) → IsNextInside network size after next → (part : Block) → IsFree routes network size part × BeginsBehind after part → Contains (free_left routes last_bits next) part
     free-is-next next (inl (behind, least, fits)) part (free, begins_behind) =
         subst (λ all. Contains all part) (sym (next-left least fits next behind)) (free-left least fits (start least fits) part free (reaches-it least fits part free begins_behind))
     free-is-next next (inr (none, outside)) part (free, begins_behind) = absurd (none-free outside part free)

@@ -12,7 +12,7 @@ use Rattle.art_steps.specs.declared.faults.InsertRefusal.TheVariants.{KeyTooLong
 use Rattle.art_routes.specs.KeyLaws.{key_long, no_key_begins_another, width_most}
 use Rattle.art_routes.specs.Keys.{key_text}
 use Rattle.art_routes.specs.Networks.{Block, IsNetwork}
-use Rattle.art_routes.specs.Tables.{AreInOrder, routes_with_value, value_of, without_route}
+use Rattle.art_routes.specs.Tables.{AreInOrder, route_value, routes_with_value, without_route}
 use Rattle.art_routes.specs.TreeEntries.{entries_with_value}
 use Rattle.art_routes.proofs.LentLemmas.{entries-with-value}
 use Rattle.art_routes.proofs.ListLemmas.{entries-find}
@@ -35,7 +35,7 @@ module _ {V : Type 0} {P : ℕ} (arena : NodeArena Block V P) where
 -- a call at the bytes of a network
 module _ {V : Type 0} {P : ℕ} (arena : NodeArena Block V P) (routes : List (Block × V)) (view_is : entries_of key_text arena ≡ routes) (all : AreNetworks (entries_of key_text arena))
     (network : Block) (is : IsNetwork network) (bytes : List ℕ) (written : bytes ≡ key_text network) where
-  pub value-held : option_map (λ entry. entry.1) (entry_at key_text arena bytes) ≡ value_of routes network
+  pub value-held : option_map (λ entry. entry.1) (entry_at key_text arena bytes) ≡ route_value routes network
   value-held =
       ap (λ x. option_map (λ (entry : Block × V). entry.1) (entry_at key_text arena x)) written
       ∙ ap (option_map (λ (entry : Block × V). entry.1)) (sym (entries-find key_text arena (key_text network))) ∙ value-at (entries_of key_text arena) routes view_is all network network is refl

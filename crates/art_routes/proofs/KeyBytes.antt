@@ -6,7 +6,7 @@ use Rattle.std.proofs.lemmas.List.{get_or-take, take_more_set}
 use Rattle.art_routes.specs.KeyLaws.{width_most}
 use Rattle.art_routes.specs.Keys.{KeyOf, block_of, key_text}
 use Rattle.art_routes.specs.Networks.{Block, IsNetwork}
-use Rattle.art_routes.specs.Strides.{behind, kept, stride, stride_at, strides, symbol}
+use Rattle.art_routes.specs.Strides.{bits_behind, kept, stride, stride_at, strides, symbol}
 use Rattle.art_routes.specs.StrideLaws.{behind_is, stride_shifted}
 use Rattle.art_routes.proofs.ByteLemmas.{read_back}
 
@@ -23,9 +23,9 @@ module _ (text : List ℕ) (count rest number : ℕ) (whole : List ℕ) where
       let step : count - i ≡ suc (count - (i + 1)) = omega arith in
       let at : 1 + (i + 1) ≡ 1 + i + 1 = omega arith in
       let more : take (1 + (i + 1)) (set text (1 + i) byte) ≡ take (1 + i) text ++ byte ∷ [] = ap (λ k. take k (set text (1 + i) byte)) at ∙ take_more_set text (1 + i) byte inside in
-      let tail : next ≡ behind number = next_is ∙ sym (behind_is number) in
-      (λ j. more j ++ strides (count - (i + 1)) rest (tail j)) ∙ append_assoc (take (1 + i) text) (byte ∷ []) (strides (count - (i + 1)) rest (behind number))
-      ∙ ap (λ b. take (1 + i) text ++ (b ∷ strides (count - (i + 1)) rest (behind number))) byte_is
+      let tail : next ≡ bits_behind number = next_is ∙ sym (behind_is number) in
+      (λ j. more j ++ strides (count - (i + 1)) rest (tail j)) ∙ append_assoc (take (1 + i) text) (byte ∷ []) (strides (count - (i + 1)) rest (bits_behind number))
+      ∙ ap (λ b. take (1 + i) text ++ (b ∷ strides (count - (i + 1)) rest (bits_behind number))) byte_is
       ∙ ap (λ k. take (1 + i) text ++ strides k rest number) (sym step) ∙ so_far
 
   -- the last byte

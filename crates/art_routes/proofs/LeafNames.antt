@@ -22,9 +22,9 @@ pub use Rattle.art_nodes.specs.Pointers.{opaque_key, opaque_pointer, slab_key}
 pub use Rattle.art_nodes.specs.declared.leaf_node.LeafNode.{LeafNode}
 pub use Rattle.art_nodes.specs.declared.pointers.OpaqueNodePtr.{OpaqueNodePtr}
 pub use Rattle.art_arena.proofs.StandingLaws.{leaf_place, one-inner}
-pub use Rattle.art_arena.proofs.TreeLaws.{first-member, knit-member, next-member, previous-member, spells-exchanged, stands-exchanged}
+pub use Rattle.art_arena.proofs.TreeLaws.{first-member, knit-member, list-exchanged, next-member, previous-member, stands-exchanged}
 pub use Rattle.art_arena.specs.Arena.{Changes, Held, HeldInner, HeldLeaf, LeafPtr, NodeArena, Nothing, held, held_leaf}
-pub use Rattle.art_arena.specs.Links.{AreDistinct, Spells, SpellsAfter, leaf_at, next_at, previous_at, with_value_at}
+pub use Rattle.art_arena.specs.Links.{AreDistinct, IsLinkedAfter, IsLinkedList, leaf_at, next_at, previous_at, with_value_at}
 pub use Rattle.art_arena.specs.Standing.{AllStandIn, StandsIn}
 pub use Rattle.art_arena.specs.Trees.{Branch, Branches, Inner, Leaf, NoBranch, Tree, branch_places, branch_roots, leaves, places}
 pub use Rattle.art_arena.specs.declared.ends.End.{End}
@@ -36,13 +36,13 @@ pub use Rattle.art_tree.specs.Entries.{AreEntries, entries_among, entries_of, pu
 pub use Rattle.art_steps.specs.Refusals.{texts_of}
 pub use Rattle.art_steps.specs.Removal.{IsLeft, NeedsSmallerNode}
 pub use Rattle.art_search.specs.Search.{leaf_pointer}
-pub use Rattle.art_steps.specs.Sides.{AreOn, IsNextTo, is_before}
+pub use Rattle.art_steps.specs.Sides.{AreOn, IsBesideKey, is_before}
 pub use Rattle.art_steps.specs.declared.place.Side.{Side}
 pub use Rattle.art_steps.specs.declared.place.Side.TheVariants.{After, AfterBegun, Before}
 pub use Rattle.art_routes.specs.TreeEntries.{entries_with_value, entry_with, set_value}
-pub use Rattle.art_routes.specs.LeafEntries.{AllHold, HoldsEntryOf, keys_of}
-pub use Rattle.art_routes.specs.NearestLeaves.{IsFirstAfter, IsLastBefore, IsNearest, is_between}
+pub use Rattle.art_routes.specs.LeafEntries.{AllHold, HoldsEntryOf, slab_keys_of}
+pub use Rattle.art_routes.specs.NearestLeaves.{IsBesideKeyOrNone, IsFirstAfter, IsLastBefore, is_between}
 pub use Rattle.art_routes.specs.Retaining.{StopsRetaining}
-pub use Rattle.art_routes.specs.LeafRuns.{EndsIn, IsRun, IsTaken, LeadsOver, LinksOver, StepsOver, at_end, entries_under, first_or, keys_between, leaf_entry, run_entries}
+pub use Rattle.art_routes.specs.LeafRuns.{EndsIn, IsEndAndRest, IsRun, LeadsOver, LinksOver, StepsOver, at_end, entries_under, first_or, key_and_value, run_entries, slab_keys_between}
 pub use Rattle.art_routes.specs.Shrinking.{HasLeafOf, IsFewest, NeedsNode, ShrinksWithout, SomeShrinksWithout}
 pub use Rattle.art_routes.specs.LeafWalks.{HoldsFirst, IsSplit, MayVisit}

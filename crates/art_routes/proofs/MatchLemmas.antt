@@ -17,7 +17,7 @@ use Rattle.art_arena.specs.Arena.{NodeArena, HeldInner, HeldLeaf, held}
 use Rattle.art_arena.specs.Trees.{Tree, leaves}
 use Rattle.art_routes.specs.declared.address.Address.{Address}
 use Rattle.art_routes.specs.KeyLaws.{cut_key, key_long, key_order, no_key_begins_another, shorter_key, width_most}
-use Rattle.art_routes.specs.Keys.{end_byte, key_text}
+use Rattle.art_routes.specs.Keys.{key_text, last_network_byte}
 use Rattle.art_routes.specs.Networks.{Block, IsNetwork, covers, first_bits, network_around}
 use Rattle.art_routes.specs.Tables.{route_now}
 use Rattle.art_routes.specs.Ways.{HasNetwork, IsBelow, IsEndAt, IsEndRoute, IsFirstEnd, IsLastEnd, IsLongestBelow, IsNetworkText, IsRouteOf, IsShortestBelow, IsWayTree, NoEnd, NoneBelow, NoneFurther}
@@ -72,21 +72,21 @@ module _ (address : Address) (most : ℕ) (family : (address.width ≡ 32) ⊎ (
     key-length = ap length key_is ∙ ap length (sym (around-text most within)) ∙ key_long (network_around address most)
 
     -- the bytes of a network around the address part from the key with the last one
-    cut-text : (n : ℕ) → n ≤ most → key_text (record { address = address; length = n }) ≡ take (suc (n / 7)) key ++ end_byte address (n / 7) (n % 7) ∷ []
-    cut-text n few = shorter_key address n most few ∙ ap (λ x. take (suc (n / 7)) x ++ end_byte address (n / 7) (n % 7) ∷ []) (sym key_is)
+    cut-text : (n : ℕ) → n ≤ most → key_text (record { address = address; length = n }) ≡ take (suc (n / 7)) key ++ last_network_byte address (n / 7) (n % 7) ∷ []
+    cut-text n few = shorter_key address n most few ∙ ap (λ x. take (suc (n / 7)) x ++ last_network_byte address (n / 7) (n % 7) ∷ []) (sym key_is)
 
-    text-of : (other : Block) → IsNetwork other → IsOver other address most → key_text other ≡ take (suc (other.length / 7)) key ++ end_byte address (other.length / 7) (other.length % 7) ∷ []
+    text-of : (other : Block) → IsNetwork other → IsOver other address most → key_text other ≡ take (suc (other.length / 7)) key ++ last_network_byte address (other.length / 7) (other.length % 7) ∷ []
     text-of other is over = cut_key other address is over.in_it.widths over.in_it.same ∙ cut-text other.length over.shorter
 
     parts : (other : Block) → IsNetwork other → IsOver other address most → PartsAt key (key_text other) (suc (other.length / 7))
     parts other is over = record {
       within = omega (arith, key-length, over.shorter);
-      byte = end_byte address (other.length / 7) (other.length % 7);
+      byte = last_network_byte address (other.length / 7) (other.length % 7);
       is = text-of other is over;
     }
 
     -- the bytes of the network that ends at a place
-    end-text : (place rest : ℕ) → IsEndAt most place rest → take place key ++ end_byte address (place - 1) rest ∷ [] ≡ key_text (network_around address (7 * (place - 1) + rest))
+    end-text : (place rest : ℕ) → IsEndAt most place rest → take place key ++ last_network_byte address (place - 1) rest ∷ [] ≡ key_text (network_around address (7 * (place - 1) + rest))
     end-text place rest end =
         let n = 7 * (place - 1) + rest in
         let some = end.some in
@@ -96,7 +96,7 @@ module _ (address : Address) (most : ℕ) (family : (address.width ≡ 32) ⊎ (
         let rests : n % 7 ≡ rest = omega (arith, few) in
         let next : suc (n / 7) ≡ place = omega (arith, strides, some) in
         let at = cut-text n fit in
-        (λ i. take (sym next i) key ++ end_byte address (sym strides i) (sym rests i) ∷ []) ∙ sym at ∙ sym (around-text n (omega (arith, fit, within)))
+        (λ i. take (sym next i) key ++ last_network_byte address (sym strides i) (sym rests i) ∷ []) ∙ sym at ∙ sym (around-text n (omega (arith, fit, within)))
 
     module _ {V : Type 0} {P : ℕ} (room : 20 ≤ P) (arena : NodeArena Block V P) (depth : ℕ) (deep : depth < length key) (pointer : OpaqueNodePtr Block V P)
         (tree : Tree (OpaqueNodePtr Block V P)) (below : IsWayTree arena (take depth key) pointer tree) where
@@ -280,7 +280,7 @@ module _ (address : Address) (most : ℕ) (family : (address.width ≡ 32) ⊎ (
 
           -- those that end here
           ends-here : (other : Block) → IsNetwork other → HasNetwork tree other → covers other target ≡ true → suc (other.length / 7) ≤ place → IsEndAt most place (other.length % 7)
-              × (place - 1 ≡ other.length / 7) × (key_text other ≡ take place key ++ end_byte address (place - 1) (other.length % 7) ∷ [])
+              × (place - 1 ≡ other.length / 7) × (key_text other ≡ take place key ++ last_network_byte address (place - 1) (other.length % 7) ∷ [])
           ends-here other other_is there test last =
               let over = is-over other address most test in
               let short = over.shorter in
@@ -289,12 +289,12 @@ module _ (address : Address) (most : ℕ) (family : (address.width ≡ 32) ⊎ (
               let strides : other.length / 7 ≡ place - 1 = omega (arith, next) in (
                 record { some = omega (arith, next); few = omega arith; fits = omega (arith, strides, short) },
                 sym strides,
-                text-of other other_is over ∙ (λ i. take (next i) key ++ end_byte address (strides i) (other.length % 7) ∷ []),
+                text-of other other_is over ∙ (λ i. take (next i) key ++ last_network_byte address (strides i) (other.length % 7) ∷ []),
               )
 
-          none-at : (other : Block) → IsNetwork other → HasNetwork tree other → (rest : ℕ) → key_text other ≡ take place key ++ end_byte address (place - 1) rest ∷ [] → child_at node.children (end_byte address (place - 1) rest) ≡ None → ⊥
+          none-at : (other : Block) → IsNetwork other → HasNetwork tree other → (rest : ℕ) → key_text other ≡ take place key ++ last_network_byte address (place - 1) rest ∷ [] → child_at node.children (last_network_byte address (place - 1) rest) ≡ None → ⊥
           none-at other other_is (p, inside) rest text none =
-              no-child key_text arena IsNetworkText (take depth key) node tree o (take place key) front below.keys (end_byte address (place - 1) rest) (p, key_text other) inside ([], text ∙ sym (append-nil (take place key ++ end_byte address (place - 1) rest ∷ []))) none
+              no-child key_text arena IsNetworkText (take depth key) node tree o (take place key) front below.keys (last_network_byte address (place - 1) rest) (p, key_text other) inside ([], text ∙ sym (append-nil (take place key ++ last_network_byte address (place - 1) rest ∷ []))) none
 
           pub none-ends : Ended → NoEnd address most place node.children → NoneBelow tree target
           none-ends last none other other_is there test =
@@ -302,7 +302,7 @@ module _ (address : Address) (most : ℕ) (family : (address.width ≡ 32) ⊎ (
               none-at other other_is there (other.length % 7) here.2 (none (other.length % 7) here.0)
 
           -- the child under the last byte of a route is its leaf
-          module _ (child : OpaqueNodePtr Block V P) (rest : ℕ) (end : IsEndAt most place rest) (child_is : child_at node.children (end_byte address (place - 1) rest) ≡ Some child) where
+          module _ (child : OpaqueNodePtr Block V P) (rest : ℕ) (end : IsEndAt most place rest) (child_is : child_at node.children (last_network_byte address (place - 1) rest) ≡ Some child) where
             abbrev pub end-network : Block
             end-network = network_around address (7 * (place - 1) + rest)
 
@@ -311,7 +311,7 @@ module _ (address : Address) (most : ℕ) (family : (address.width ≡ 32) ⊎ (
 
             sub-tree : (sub : Tree (OpaqueNodePtr Block V P)) × IsBelow key_text arena IsNetworkText (key_text end-network) child sub × ((l : OpaqueNodePtr Block V P × List ℕ) → Contains (leaves sub) l → Contains (leaves tree) l)
             sub-tree =
-                let found = child-tree key_text arena IsNetworkText (take depth key) node tree o (take place key) front below.keys (end_byte address (place - 1) rest) child child_is in
+                let found = child-tree key_text arena IsNetworkText (take depth key) node tree o (take place key) front below.keys (last_network_byte address (place - 1) rest) child child_is in
                 (found.0, subst (λ x. IsBelow key_text arena IsNetworkText x child found.0) (end-text place rest end) found.1, found.2)
 
             pub end-leaf : (leaf : LeafNode Block V P) × (held arena child ≡ HeldLeaf leaf) × (key_text (leaf_key leaf) ≡ key_text end-network) × Contains (leaves tree) (child, key_text end-network)
@@ -344,7 +344,7 @@ module _ (address : Address) (most : ℕ) (family : (address.width ≡ 32) ⊎ (
               route-covers : covers route target ≡ true
               route-covers = let fit = end.fits in ap (λ n. covers n target) same-route ∙ around-covers (7 * (place - 1) + rest) fit
 
-              pub end-found : Ended → ((other : ℕ) → rest < other → IsEndAt most place other → child_at node.children (end_byte address (place - 1) other) ≡ None) → IsLongestBelow arena tree target (route, leaf_value leaf)
+              pub end-found : Ended → ((other : ℕ) → rest < other → IsEndAt most place other → child_at node.children (last_network_byte address (place - 1) other) ≡ None) → IsLongestBelow arena tree target (route, leaf_value leaf)
               end-found last longer = record {
                 listed = route-listed;
                 is_network = is_network;
@@ -357,7 +357,7 @@ module _ (address : Address) (most : ℕ) (family : (address.width ≡ 32) ⊎ (
                     ];
               }
 
-              pub first-found : ((other : ℕ) → other < rest → IsEndAt most place other → child_at node.children (end_byte address (place - 1) other) ≡ None) → IsShortestBelow arena tree target (route, leaf_value leaf)
+              pub first-found : ((other : ℕ) → other < rest → IsEndAt most place other → child_at node.children (last_network_byte address (place - 1) other) ≡ None) → IsShortestBelow arena tree target (route, leaf_value leaf)
               first-found shorter = record {
                 listed = route-listed;
                 is_network = is_network;

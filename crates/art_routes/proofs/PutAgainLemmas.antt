@@ -6,7 +6,7 @@ use Rattle.std.specs.declared.cmp.Ordering.TheVariants.{Less, Equal, Greater}
 use Rattle.std.proofs.lemmas.Bool.{false_from_ne_true}
 use Rattle.std.proofs.lemmas.List.Elements.{All-cons, All-head, All-tail}
 use Rattle.art_routes.specs.Networks.{Block, IsNetwork, network_order}
-use Rattle.art_routes.specs.Tables.{AreInOrder, put_route, routes_with_value, value_of}
+use Rattle.art_routes.specs.Tables.{AreInOrder, put_route, route_value, routes_with_value}
 use Rattle.art_routes.proofs.CallLaws.{same_network, tied, ties_itself}
 use Rattle.art_routes.proofs.OrderLemmas.{less-rank, rank}
 use Rattle.art_routes.proofs.ReadLemmas.{NoneTo, none-to}
@@ -29,7 +29,7 @@ module _ {V : Type 0} (network : Block) (is : IsNetwork network) (value : V) whe
       let less = less-rank route.0 (get_or routes k d).0 (All-head (λ (r : Block × V). IsNetwork r.0) route routes are) (All-tail (λ (r : Block × V). IsNetwork r.0) route routes are k d inside) (ordered 0 (suc k) d (omega arith) (omega (arith, inside))) in
       differs network (get_or routes k d).0 (omega (arith, less, no_earlier))
 
-  pub with-is-put : (routes : List (Block × V)) → AreInOrder routes → All (λ r. IsNetwork r.0) routes → value_of routes network ≢ None → routes_with_value routes network value ≡ put_route routes network value
+  pub with-is-put : (routes : List (Block × V)) → AreInOrder routes → All (λ r. IsNetwork r.0) routes → route_value routes network ≢ None → routes_with_value routes network value ≡ put_route routes network value
   with-is-put [] ordered are found = absurd (found refl)
   with-is-put (route ∷ routes) ordered are found =
       by_order (network_order network route.0) refl
@@ -38,7 +38,7 @@ module _ {V : Type 0} (network : Block) (is : IsNetwork network) (value : V) whe
       route_is : IsNetwork route.0
       route_is = All-head (λ (r : Block × V). IsNetwork r.0) route routes are
 
-      by_order : (o : Ordering) → network_order network route.0 ≡ o → (value_of routes network ≢ None → routes_with_value routes network value ≡ put_route routes network value)
+      by_order : (o : Ordering) → network_order network route.0 ≡ o → (route_value routes network ≢ None → routes_with_value routes network value ≡ put_route routes network value)
           → routes_with_value (route ∷ routes) network value ≡ match_ordering o ((network, value) ∷ route ∷ routes) ((network, value) ∷ routes) (route ∷ put_route routes network value)
       by_order Less at rest =
           let less = less-rank network route.0 is route_is at in

@@ -1,7 +1,7 @@
 -- Routes that are put one after another.
 use Rattle.std.proofs.Common.{◌≡◌, ◌∙◌, List, [], ◌∷◌, ◌++◌, None, sym, ap, append_assoc, append-nil}
 use Rattle.art_routes.specs.Networks.{Block}
-use Rattle.art_routes.specs.Tables.{IsFirstToNetwork, put_route, put_routes, value_of}
+use Rattle.art_routes.specs.Tables.{IsFirstToNetwork, put_route, put_routes, route_value}
 use Rattle.art_routes.proofs.CallLaws.{put_last}
 
 module _ {V : Type 0} where
@@ -25,10 +25,10 @@ module _ {V : Type 0} where
     pub all_put : left ≡ [] → table ≡ put_routes [] all
     all_put none = so_far.put ∙ ap (λ done. put_routes [] done) (sym (so_far.whole ∙ ap (λ more. so_far.done ++ more) none ∙ append-nil so_far.done))
 
-    pub next_is_first : (route : Block × V) (rest : List (Block × V)) → left ≡ route ∷ rest → value_of table route.0 ≡ None → IsFirstToNetwork all route
+    pub next_is_first : (route : Block × V) (rest : List (Block × V)) → left ≡ route ∷ rest → route_value table route.0 ≡ None → IsFirstToNetwork all route
     next_is_first route rest next none = record {
       before = so_far.done;
       rest = rest;
       listed = so_far.whole ∙ ap (λ more. so_far.done ++ more) next;
-      no_route = ap (λ routes. value_of routes route.0) (sym so_far.put) ∙ none;
+      no_route = ap (λ routes. route_value routes route.0) (sym so_far.put) ∙ none;
     }

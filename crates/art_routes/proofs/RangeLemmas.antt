@@ -1,9 +1,9 @@
 -- The leaves between two places in the order of texts, and what they hold.
-use Rattle.art_routes.proofs.LeafNames.{All, All-append, All-head, All-tail, All-weaker, AllHold, AreDistinct, AreOn, Bool, EndsIn, Held, HeldLeaf, HoldsEntryOf, IsAlone, IsFirstAfter, IsLastBefore, LeadsOver, LeafNode, LeafPtr, List, NodeArena, None, Nothing, OpaqueNodePtr, Option, Side, Some, Spells, SpellsAfter, Tree, [], all_left, all_right, ap, append-nil, append_assoc, cond, entries_of, entries_under, false, filter, filter-append, filter_map-append, get_or, held, inl, inr, is_before, is_between, keys_of, leaf_at, leaf_entry, leaf_key, leaf_pointer, leaves, map, map-append, not, opaque_key, option_map, refl, run_entries, slab_key, slice_get, subst, sym, true, ℕ, ◌&&◌, ◌++◌, ◌∙◌, ◌∷◌, ◌≡◌, ◌≢◌, ◌⊎◌}
+use Rattle.art_routes.proofs.LeafNames.{All, All-append, All-head, All-tail, All-weaker, AllHold, AreDistinct, AreOn, Bool, EndsIn, Held, HeldLeaf, HoldsEntryOf, IsAlone, IsFirstAfter, IsLastBefore, IsLinkedAfter, IsLinkedList, LeadsOver, LeafNode, LeafPtr, List, NodeArena, None, Nothing, OpaqueNodePtr, Option, Side, Some, Tree, [], all_left, all_right, ap, append-nil, append_assoc, cond, entries_of, entries_under, false, filter, filter-append, filter_map-append, get_or, held, inl, inr, is_before, is_between, key_and_value, leaf_at, leaf_key, leaf_pointer, leaves, map, map-append, not, opaque_key, option_map, refl, run_entries, slab_key, slab_keys_of, slice_get, subst, sym, true, ℕ, ◌&&◌, ◌++◌, ◌∙◌, ◌∷◌, ◌≡◌, ◌≢◌, ◌⊎◌}
 use Rattle.art_routes.proofs.EntryLemmas.{entries-of-leaves, leaves-hold}
-use Rattle.art_routes.proofs.RunLemmas.{distinct-front, ends-push, entries-cons, run-is, spelled-links}
+use Rattle.art_routes.proofs.RunLemmas.{distinct-front, ends-push, entries-cons, list-links, run-is}
 
-pub keys-append : {K V : Type 0} {P : ℕ} (a b : List (OpaqueNodePtr K V P × List ℕ)) → keys_of (a ++ b) ≡ keys_of a ++ keys_of b
+pub keys-append : {K V : Type 0} {P : ℕ} (a b : List (OpaqueNodePtr K V P × List ℕ)) → slab_keys_of (a ++ b) ≡ slab_keys_of a ++ slab_keys_of b
 keys-append a b = ap (map opaque_key) (map-append (λ leaf. leaf.0) a b) ∙ map-append opaque_key (map (λ leaf. leaf.0) a) (map (λ leaf. leaf.0) b)
 
 -- a list is empty or has a last member
@@ -59,9 +59,9 @@ pub between-yes : (a b : Bool) → a ≡ false → b ≡ true → (b && not a) �
 between-yes a b after before = ap (λ b. b && not a) before ∙ ap not after
 
 module _ {K V : Type 0} {P : ℕ} (text : K → List ℕ) (arena : NodeArena K V P) where
-  spells-drop : (before : Option ℕ) (xs ys : List ℕ) → SpellsAfter arena before (xs ++ ys) → (last : Option ℕ) × SpellsAfter arena last ys
-  spells-drop before [] ys spelled = (before, spelled)
-  spells-drop before (x ∷ xs) ys spelled = spells-drop (Some x) xs ys spelled.1
+  list-drop : (before : Option ℕ) (xs ys : List ℕ) → IsLinkedAfter arena before (xs ++ ys) → (last : Option ℕ) × IsLinkedAfter arena last ys
+  list-drop before [] ys is_linked = (before, is_linked)
+  list-drop before (x ∷ xs) ys is_linked = list-drop (Some x) xs ys is_linked.1
 
   pub hold-left : (a b : List (OpaqueNodePtr K V P × List ℕ)) → AllHold text arena (a ++ b) → AllHold text arena a
   hold-left [] b hold = tt
@@ -77,10 +77,10 @@ module _ {K V : Type 0} {P : ℕ} (text : K → List ℕ) (arena : NodeArena K V
 
   -- the entries of some leaves
   abbrev pub held_by : List (OpaqueNodePtr K V P × List ℕ) → List (K × V)
-  held_by pairs = entries_under arena (keys_of pairs)
+  held_by pairs = entries_under arena (slab_keys_of pairs)
 
   pub held-append : (a b : List (OpaqueNodePtr K V P × List ℕ)) → held_by (a ++ b) ≡ held_by a ++ held_by b
-  held-append a b = ap (entries_under arena) (keys-append a b) ∙ filter_map-append (λ key. option_map leaf_entry (leaf_at arena key)) (keys_of a) (keys_of b)
+  held-append a b = ap (entries_under arena) (keys-append a b) ∙ filter_map-append (λ key. option_map key_and_value (leaf_at arena key)) (slab_keys_of a) (slab_keys_of b)
 
   module _ (test : List ℕ → Bool) where
     abbrev kept : List (K × V) → List (K × V)
@@ -89,18 +89,18 @@ module _ {K V : Type 0} {P : ℕ} (text : K → List ℕ) (arena : NodeArena K V
     keep-all : (pairs : List (OpaqueNodePtr K V P × List ℕ)) → AllHold text arena pairs → All (λ leaf. test leaf.1 ≡ true) pairs → kept (held_by pairs) ≡ held_by pairs
     keep-all [] hold all = refl
     keep-all (pair ∷ pairs) hold all =
-        let cons = entries-cons arena (opaque_key pair.0) (keys_of pairs) hold.0.leaf hold.0.at in
-        let here : test (text (leaf_entry hold.0.leaf).0) ≡ true = ap test hold.0.has ∙ All-head (λ leaf. test leaf.1 ≡ true) pair pairs all in
+        let cons = entries-cons arena (opaque_key pair.0) (slab_keys_of pairs) hold.0.leaf hold.0.at in
+        let here : test (text (key_and_value hold.0.leaf).0) ≡ true = ap test hold.0.has ∙ All-head (λ leaf. test leaf.1 ≡ true) pair pairs all in
         let rest = keep-all pairs hold.1 (All-tail (λ leaf. test leaf.1 ≡ true) pair pairs all) in
-        ap kept cons ∙ ap (λ b. cond b (leaf_entry hold.0.leaf ∷ kept (held_by pairs)) (kept (held_by pairs))) here ∙ ap (λ es. leaf_entry hold.0.leaf ∷ es) rest ∙ sym cons
+        ap kept cons ∙ ap (λ b. cond b (key_and_value hold.0.leaf ∷ kept (held_by pairs)) (kept (held_by pairs))) here ∙ ap (λ es. key_and_value hold.0.leaf ∷ es) rest ∙ sym cons
 
     leave-all : (pairs : List (OpaqueNodePtr K V P × List ℕ)) → AllHold text arena pairs → All (λ leaf. test leaf.1 ≡ false) pairs → kept (held_by pairs) ≡ []
     leave-all [] hold all = refl
     leave-all (pair ∷ pairs) hold all =
-        let cons = entries-cons arena (opaque_key pair.0) (keys_of pairs) hold.0.leaf hold.0.at in
-        let here : test (text (leaf_entry hold.0.leaf).0) ≡ false = ap test hold.0.has ∙ All-head (λ leaf. test leaf.1 ≡ false) pair pairs all in
+        let cons = entries-cons arena (opaque_key pair.0) (slab_keys_of pairs) hold.0.leaf hold.0.at in
+        let here : test (text (key_and_value hold.0.leaf).0) ≡ false = ap test hold.0.has ∙ All-head (λ leaf. test leaf.1 ≡ false) pair pairs all in
         let rest = leave-all pairs hold.1 (All-tail (λ leaf. test leaf.1 ≡ false) pair pairs all) in
-        ap kept cons ∙ ap (λ b. cond b (leaf_entry hold.0.leaf ∷ kept (held_by pairs)) (kept (held_by pairs))) here ∙ rest
+        ap kept cons ∙ ap (λ b. cond b (key_and_value hold.0.leaf ∷ kept (held_by pairs)) (kept (held_by pairs))) here ∙ rest
 
   module _ (start_side : Side) (start : List ℕ) (end_side : Side) (end : List ℕ) where
     abbrev passes : K × V → Bool
@@ -149,7 +149,7 @@ module _ {K V : Type 0} {P : ℕ} (text : K → List ℕ) (arena : NodeArena K V
             let parts = align-past (λ leaf. is_before end_side end leaf.1 ≡ false) (left ++ b ∷ []) B L f R both outside past in
             none-between L (f ∷ R) is_low before_L (all_right (λ leaf. is_before end_side end leaf.1 ≡ false) parts.0 (f ∷ R) (subst (AreOn end_side end false) parts.1 after_B))
 
-        module _ (spelled : Spells arena (keys_of (leaves tree))) (inside : is_before end_side end f.1 ≡ true) where
+        module _ (is_linked : IsLinkedList arena (slab_keys_of (leaves tree))) (inside : is_before end_side end f.1 ≡ true) where
           pub aligned : (rest : List (OpaqueNodePtr K V P × List ℕ)) × (left ++ b ∷ [] ≡ L ++ f ∷ rest) × (R ≡ rest ++ B)
           aligned =
               let outside = All-weaker (λ leaf. is_before end_side end leaf.1 ≡ false) (λ leaf. is_before end_side end leaf.1 ≡ true → ⊥) (λ leaf late early. not-both (is_before end_side end leaf.1) early late) B after_B in
@@ -162,20 +162,20 @@ module _ {K V : Type 0} {P : ℕ} (text : K → List ℕ) (arena : NodeArena K V
           whole : leaves tree ≡ L ++ (mid ++ B)
           whole = is_low ∙ ap (λ r. L ++ f ∷ r) aligned.2
 
-          keys-whole : keys_of (leaves tree) ≡ keys_of L ++ (keys_of mid ++ keys_of B)
-          keys-whole = ap keys_of whole ∙ keys-append L (mid ++ B) ∙ ap (λ ks. keys_of L ++ ks) (keys-append mid B)
+          keys-whole : slab_keys_of (leaves tree) ≡ slab_keys_of L ++ (slab_keys_of mid ++ slab_keys_of B)
+          keys-whole = ap slab_keys_of whole ∙ keys-append L (mid ++ B) ∙ ap (λ ks. slab_keys_of L ++ ks) (keys-append mid B)
 
-          pub range-leads : LeadsOver arena (opaque_key f.0) (opaque_key b.0) (keys_of mid)
+          pub range-leads : LeadsOver arena (opaque_key f.0) (opaque_key b.0) (slab_keys_of mid)
           range-leads =
-              let there = spells-drop None (keys_of L) (keys_of mid ++ keys_of B) (subst (SpellsAfter arena None) keys-whole spelled.spelled) in
+              let there = list-drop None (slab_keys_of L) (slab_keys_of mid ++ slab_keys_of B) (subst (IsLinkedAfter arena None) keys-whole is_linked.is_linked) in
               record {
                 before = there.0;
-                after = slice_get (keys_of B) 0;
-                linked = spelled-links arena there.0 (keys_of mid) (keys_of B) there.1;
-                distinct = distinct-front (keys_of mid) (keys_of B) (distinct-right (keys_of L) (keys_of mid ++ keys_of B) (subst AreDistinct keys-whole spelled.distinct));
-                rest = keys_of aligned.0;
+                after = slice_get (slab_keys_of B) 0;
+                linked = list-links arena there.0 (slab_keys_of mid) (slab_keys_of B) there.1;
+                distinct = distinct-front (slab_keys_of mid) (slab_keys_of B) (distinct-right (slab_keys_of L) (slab_keys_of mid ++ slab_keys_of B) (subst AreDistinct keys-whole is_linked.distinct));
+                rest = slab_keys_of aligned.0;
                 begins = refl;
-                ends = ends-part (keys_of L) (opaque_key f.0) (keys_of aligned.0) (opaque_key b.0) (subst (λ ks. EndsIn ks (opaque_key b.0)) (sym (keys-append left (b ∷ [])) ∙ ap keys_of aligned.1 ∙ keys-append L mid) (ends-push (keys_of left) (opaque_key b.0)));
+                ends = ends-part (slab_keys_of L) (opaque_key f.0) (slab_keys_of aligned.0) (opaque_key b.0) (subst (λ ks. EndsIn ks (opaque_key b.0)) (sym (keys-append left (b ∷ [])) ∙ ap slab_keys_of aligned.1 ∙ keys-append L mid) (ends-push (slab_keys_of left) (opaque_key b.0)));
               }
 
           pub range-is : filter passes (held_by (leaves tree)) ≡ held_by mid
@@ -229,15 +229,15 @@ module _ {K V : Type 0} {P : ℕ} {text : K → List ℕ} {arena : NodeArena K V
 
       module _ (inside : is_before end_side end low.0 ≡ true) where
         abbrev pub mid-keys : List ℕ
-        mid-keys = keys_of (mid text arena start_side start end_side end tree (leaves-hold alone) low.1 low.2 high.1 high.2 f b low.3 low.4 low.5 high.3 high.4 high.5 alone.spelled inside)
+        mid-keys = slab_keys_of (mid text arena start_side start end_side end tree (leaves-hold alone) low.1 low.2 high.1 high.2 f b low.3 low.4 low.5 high.3 high.4 high.5 alone.is_linked inside)
 
         abbrev pub range-run : (keys : List ℕ) × LeadsOver arena (slab_key front) (slab_key back) keys
-        range-run = (mid-keys, range-leads text arena start_side start end_side end tree (leaves-hold alone) low.1 low.2 high.1 high.2 f b low.3 low.4 low.5 high.3 high.4 high.5 alone.spelled inside)
+        range-run = (mid-keys, range-leads text arena start_side start end_side end tree (leaves-hold alone) low.1 low.2 high.1 high.2 f b low.3 low.4 low.5 high.3 high.4 high.5 alone.is_linked inside)
 
         pub range-some : run_entries arena (Some (front, back)) ≡ within (entries_of text arena)
         range-some =
             of-leaves (run_entries arena (Some (front, back)))
-            (range-is text arena start_side start end_side end tree (leaves-hold alone) low.1 low.2 high.1 high.2 f b low.3 low.4 low.5 high.3 high.4 high.5 alone.spelled inside
+            (range-is text arena start_side start end_side end tree (leaves-hold alone) low.1 low.2 high.1 high.2 f b low.3 low.4 low.5 high.3 high.4 high.5 alone.is_linked inside
             ∙ ap (entries_under arena) (sym (run-is arena (slab_key front) (slab_key back) range-run.0 range-run.1)))
 
 pub something-held : {H L : Type 0} (at : Held H L) (leaf : L) → at ≡ HeldLeaf leaf → at ≢ Nothing

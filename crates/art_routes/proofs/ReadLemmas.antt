@@ -6,7 +6,7 @@ use Rattle.std.proofs.lemmas.Bool.{false_from_ne_true}
 use Rattle.std.proofs.lemmas.List.Elements.{All-contains, All-head, All-tail}
 use Rattle.art_routes.specs.declared.address.Address.{Address}
 use Rattle.art_routes.specs.Networks.{Block, IsNetwork, covers, network_order}
-use Rattle.art_routes.specs.Tables.{AreInOrder, IsLongestOver, NoneCovers, value_of}
+use Rattle.art_routes.specs.Tables.{AreInOrder, IsLongestOver, NoneCovers, route_value}
 use Rattle.art_routes.proofs.CallLaws.{same_network, tied, ties_itself}
 use Rattle.art_routes.proofs.CoverLemmas.{is-over}
 use Rattle.art_routes.proofs.PartLemmas.{covers-itself, same-by-length}
@@ -16,14 +16,14 @@ module _ {V : Type 0} (network : Block) where
   abbrev pub NoneTo : List (Block × V) → Type 0
   NoneTo routes = All (λ route. is_eq (network_order route.0 network) ≡ false) routes
 
-  pub none-to : (routes : List (Block × V)) → NoneTo routes → value_of routes network ≡ None
+  pub none-to : (routes : List (Block × V)) → NoneTo routes → route_value routes network ≡ None
   none-to [] differ = refl
   none-to (route ∷ routes) differ =
       let first = All-head (λ (r : Block × V). is_eq (network_order r.0 network) ≡ false) route routes differ in
       rw first (none-to routes (All-tail (λ (r : Block × V). is_eq (network_order r.0 network) ≡ false) route routes differ))
 
   -- the route to it has the value
-  pub one-to : (routes : List (Block × V)) → AreInOrder routes → (route : Block × V) → Contains routes route → route.0 ≡ network → value_of routes network ≡ Some route.1
+  pub one-to : (routes : List (Block × V)) → AreInOrder routes → (route : Block × V) → Contains routes route → route.0 ≡ network → route_value routes network ≡ Some route.1
   one-to [] ordered route (k, within, at) same = absurd (omega (arith, within))
   one-to (first ∷ routes) ordered route (zero, within, at) same =
       let it : is_eq (network_order first.0 network) ≡ true = ap (λ (r : Block × V). is_eq (network_order r.0 network)) at ∙ ap (λ n. is_eq (network_order n network)) same ∙ ap is_eq (ties_itself network) in
@@ -54,7 +54,7 @@ module _ {V : Type 0} (network : Block) where
       whole = λ i. record { address = addresses i; length = lengths i }
 
       -- where none covers the network, none is to it
-      pub value-none : NoneCovers routes (record { address = address; length = length }) → None ≡ value_of routes network
+      pub value-none : NoneCovers routes (record { address = address; length = length }) → None ≡ route_value routes network
       value-none none = sym (none-to routes (none-covers (subst (λ (n : Block). NoneCovers routes n) whole none)))
 
       module _ (route : Block × V) (longest : IsLongestOver routes (record { address = address; length = length }) route) where
@@ -62,11 +62,11 @@ module _ {V : Type 0} (network : Block) where
         is-longest = subst (λ (n : Block). IsLongestOver routes n route) whole longest
 
         -- the longest that covers it is to it, where it is as long
-        pub value-here : route.0.length ≡ length → Some route.1 ≡ value_of routes network
+        pub value-here : route.0.length ≡ length → Some route.1 ≡ route_value routes network
         value-here as_long =
             let route_is = All-contains (λ (r : Block × V). IsNetwork r.0) routes route are is-longest.listed in
             sym (one-to routes ordered route is-longest.listed (same-by-length route.0 network route_is is is-longest.matches (as_long ∙ lengths)))
 
         -- and else none is
-        pub value-not-here : ¬ (route.0.length ≡ length) → None ≡ value_of routes network
+        pub value-not-here : ¬ (route.0.length ≡ length) → None ≡ route_value routes network
         value-not-here shorter = sym (none-to routes (none-as-long route is-longest (λ same. shorter (same ∙ sym lengths))))

@@ -13,7 +13,7 @@ use Rattle.art_routes.specs.TreeEntries.{entry_with, entries_with_value}
 use Rattle.art_routes.specs.KeyLaws.{key_order}
 use Rattle.art_routes.specs.Keys.{key_text}
 use Rattle.art_routes.specs.Networks.{Block, IsNetwork, network_order}
-use Rattle.art_routes.specs.Tables.{AreInOrder, put_route, value_of, routes_with_value, without_route}
+use Rattle.art_routes.specs.Tables.{AreInOrder, put_route, route_value, routes_with_value, without_route}
 
 -- pairs in a list that begins with one more
 pairs_cons : {X : Type 0} (R : X → X → Type 0) (x : X) (xs : List X) → All (R x) xs → AllPairs R xs → AllPairs R (x ∷ xs)
@@ -65,13 +65,13 @@ module _ {V : Type 0} where
       by_test true rest = All-cons (λ e. IsNetwork e.0) entry (filter p entries) (here entry entries all) rest
       by_test false rest = rest
 
-  pub value-read : (entries : List (Block × V)) (x : Block) → AreNetworks entries → IsNetwork x → option_map (λ entry. entry.1) (entry_with key_text entries (key_text x)) ≡ value_of entries x
+  pub value-read : (entries : List (Block × V)) (x : Block) → AreNetworks entries → IsNetwork x → option_map (λ entry. entry.1) (entry_with key_text entries (key_text x)) ≡ route_value entries x
   value-read [] x all is = refl
   value-read (entry ∷ entries) x all is =
       by_test (pointwise nat_eq (key_text entry.0) (key_text x)) (same-read entry.0 x (here entry entries all) is) (value-read entries x (later entry entries all) is)
     where
-      by_test : (t : Bool) → t ≡ is_eq (network_order entry.0 x) → option_map (λ e. e.1) (entry_with key_text entries (key_text x)) ≡ value_of entries x
-          → option_map (λ e. e.1) (cond t (Some entry) (entry_with key_text entries (key_text x))) ≡ value_of (entry ∷ entries) x
+      by_test : (t : Bool) → t ≡ is_eq (network_order entry.0 x) → option_map (λ e. e.1) (entry_with key_text entries (key_text x)) ≡ route_value entries x
+          → option_map (λ e. e.1) (cond t (Some entry) (entry_with key_text entries (key_text x))) ≡ route_value (entry ∷ entries) x
       by_test true same rest = rw (← same) refl
       by_test false same rest = rw (← same) rest
 
@@ -125,8 +125,8 @@ module _ {V : Type 0} where
     pub x-is : IsNetwork x
     x-is = subst IsNetwork (sym written) is
 
-    pub value-at : option_map (λ entry. entry.1) (entry_with key_text entries (key_text x)) ≡ value_of routes network
-    value-at = value-read entries x all x-is ∙ (λ i. value_of (view_is i) (written i))
+    pub value-at : option_map (λ entry. entry.1) (entry_with key_text entries (key_text x)) ≡ route_value routes network
+    value-at = value-read entries x all x-is ∙ (λ i. route_value (view_is i) (written i))
 
     pub put-at : (value : V) → put_entry key_text entries (x, value) ≡ put_route routes network value
     put-at value = put-read entries x value all x-is ∙ (λ i. put_route (view_is i) (written i) value)

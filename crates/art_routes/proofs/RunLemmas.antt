@@ -1,5 +1,5 @@
 -- Runs of linked leaves: how they are gone through, and that they end.
-use Rattle.art_routes.proofs.LeafNames.{All, All-cons, All-contains, All-head, All-nil, All-tail, AreDistinct, Changes, Contains-append_right, End, EndsIn, First, HasEach, Held, HeldLeaf, IsRun, IsTaken, Last, LeadsOver, LeafNode, LeafPtr, LinksOver, List, NodeArena, None, Nothing, OpaqueNodePtr, Option, Some, SpellsAfter, StepsOver, [], ap, append_assoc, arith, at_end, cons_option, count_by-le-length, distinct-fit, entries_under, eqb_tells, filter_map-append, first_or, get_or_append_left, held, held_leaf, inl, inr, is_some, keys_between, leaf_at, leaf_entry, leaf_pointer, length, length-append, next_at, next_key, none-some, opaque_key, opaque_pointer, option_and_then, option_map, option_map_or, previous_key, refl, run_entries, same_Some, slab_key, slice_get, slice_index_or, subst, suc, sym, zero, ℕ, ◌++◌, ◌∙◌, ◌∷◌, ◌≡◌, ◌≢◌, ◌≤◌}
+use Rattle.art_routes.proofs.LeafNames.{All, All-cons, All-contains, All-head, All-nil, All-tail, AreDistinct, Changes, Contains-append_right, End, EndsIn, First, HasEach, Held, HeldLeaf, IsEndAndRest, IsLinkedAfter, IsRun, Last, LeadsOver, LeafNode, LeafPtr, LinksOver, List, NodeArena, None, Nothing, OpaqueNodePtr, Option, Some, StepsOver, [], ap, append_assoc, arith, at_end, cons_option, count_by-le-length, distinct-fit, entries_under, eqb_tells, filter_map-append, first_or, get_or_append_left, held, held_leaf, inl, inr, is_some, key_and_value, leaf_at, leaf_pointer, length, length-append, next_at, next_key, none-some, opaque_key, opaque_pointer, option_and_then, option_map, option_map_or, previous_key, refl, run_entries, same_Some, slab_key, slab_keys_between, slice_get, slice_index_or, subst, suc, sym, zero, ℕ, ◌++◌, ◌∙◌, ◌∷◌, ◌≡◌, ◌≢◌, ◌≤◌}
 use Rattle.art_header.specs.declared.node_type.NodeType.TheVariants as kinds
 use Rattle.art_routes.proofs.ListLemmas.{slots-same}
 
@@ -15,11 +15,11 @@ ends-push (k ∷ []) back = refl
 ends-push (k ∷ j ∷ keys) back = ends-push (j ∷ keys) back
 
 module _ {K V : Type 0} {P : ℕ} (arena : NodeArena K V P) where
-  -- the leaves of a part of a list that the links spell
-  pub spelled-links : (before : Option ℕ) (keys after : List ℕ) → SpellsAfter arena before (keys ++ after) → LinksOver arena before keys (slice_get after 0)
-  spelled-links before [] after spelled = tt
-  spelled-links before (k ∷ []) after spelled = (spelled.0, tt)
-  spelled-links before (k ∷ j ∷ keys) after spelled = (spelled.0, spelled-links (Some k) (j ∷ keys) after spelled.1)
+  -- the leaves of a part of a linked list
+  pub list-links : (before : Option ℕ) (keys after : List ℕ) → IsLinkedAfter arena before (keys ++ after) → LinksOver arena before keys (slice_get after 0)
+  list-links before [] after is_linked = tt
+  list-links before (k ∷ []) after is_linked = (is_linked.0, tt)
+  list-links before (k ∷ j ∷ keys) after is_linked = (is_linked.0, list-links (Some k) (j ∷ keys) after is_linked.1)
 
   linked-held : (before : Option ℕ) (keys : List ℕ) (after : Option ℕ) → LinksOver arena before keys after → HasEach arena.leaf.slots keys
   linked-held before [] after linked = All-nil (λ k. slice_index_or arena.leaf.slots k None ≢ None)
@@ -36,7 +36,7 @@ module _ {K V : Type 0} {P : ℕ} (arena : NodeArena K V P) where
   more front (k ∷ ks) back ends differ = (k, ks, refl)
 
   -- the links lead over the keys
-  walk : (before : Option ℕ) (front : ℕ) (rest : List ℕ) (after : Option ℕ) (back count : ℕ) → LinksOver arena before (front ∷ rest) after → AreDistinct (front ∷ rest) → EndsIn (front ∷ rest) back → length (front ∷ rest) ≤ count → keys_between arena count front back ≡ front ∷ rest
+  walk : (before : Option ℕ) (front : ℕ) (rest : List ℕ) (after : Option ℕ) (back count : ℕ) → LinksOver arena before (front ∷ rest) after → AreDistinct (front ∷ rest) → EndsIn (front ∷ rest) back → length (front ∷ rest) ≤ count → slab_keys_between arena count front back ≡ front ∷ rest
   walk before front rest after back zero linked distinct ends fits = absurd (omega (arith, fits))
   walk before front [] after back (suc count) linked distinct ends fits = elim (eqb_tells front back) [
     | inl same ↦ rw same.0 refl
@@ -47,11 +47,11 @@ module _ {K V : Type 0} {P : ℕ} (arena : NodeArena K V P) where
     | inr differ ↦
         let next : next_at arena front ≡ Some k = ap (option_and_then next_key) linked.0.1 ∙ linked.0.3 in
         let on = walk (Some front) k ks after back count linked.1 distinct.1 ends (omega (arith, fits)) in
-        rw differ.0 (ap (λ o. front ∷ option_map_or (λ next. keys_between arena count next back) o []) next ∙ ap (λ keys. front ∷ keys) on)
+        rw differ.0 (ap (λ o. front ∷ option_map_or (λ next. slab_keys_between arena count next back) o []) next ∙ ap (λ keys. front ∷ keys) on)
   ]
 
   -- the leaves from one to another, as the view of a run has them
-  pub run-is : (front back : ℕ) (keys : List ℕ) → LeadsOver arena front back keys → keys_between arena (length arena.leaf.slots) front back ≡ keys
+  pub run-is : (front back : ℕ) (keys : List ℕ) → LeadsOver arena front back keys → slab_keys_between arena (length arena.leaf.slots) front back ≡ keys
   run-is front back keys leads =
       let at_front = leads.begins in
       let linked = subst (λ all. LinksOver arena leads.before all leads.after) at_front leads.linked in
@@ -60,12 +60,12 @@ module _ {K V : Type 0} {P : ℕ} (arena : NodeArena K V P) where
       let fits : length (front ∷ leads.rest) ≤ length arena.leaf.slots = let most = count_by-le-length is_some arena.leaf.slots in omega (arith, few, most) in
       walk leads.before front leads.rest leads.after back (length arena.leaf.slots) linked distinct (subst (λ all. EndsIn all back) at_front leads.ends) fits ∙ sym at_front
 
-  pub entries-cons : (key : ℕ) (keys : List ℕ) (leaf : LeafNode K V P) → leaf_at arena key ≡ Some leaf → entries_under arena (key ∷ keys) ≡ leaf_entry leaf ∷ entries_under arena keys
-  entries-cons key keys leaf at = ap (λ o. cons_option (option_map leaf_entry o) (entries_under arena keys)) at
+  pub entries-cons : (key : ℕ) (keys : List ℕ) (leaf : LeafNode K V P) → leaf_at arena key ≡ Some leaf → entries_under arena (key ∷ keys) ≡ key_and_value leaf ∷ entries_under arena keys
+  entries-cons key keys leaf at = ap (λ o. cons_option (option_map key_and_value o) (entries_under arena keys)) at
 
   -- the entries from one leaf to another
   abbrev pub span : ℕ → ℕ → List (K × V)
-  span front back = entries_under arena (keys_between arena (length arena.leaf.slots) front back)
+  span front back = entries_under arena (slab_keys_between arena (length arena.leaf.slots) front back)
 
   module _ (front back : ℕ) (keys : List ℕ) (leads : LeadsOver arena front back keys) where
     linked-here : LinksOver arena leads.before (front ∷ leads.rest) leads.after
@@ -82,11 +82,11 @@ module _ {K V : Type 0} {P : ℕ} (arena : NodeArena K V P) where
     front-leaf = (linked-here.0.0, linked-here.0.1)
 
     module _ (leaf : LeafNode K V P) (at : leaf_at arena front ≡ Some leaf) where
-      span-cons : span front back ≡ leaf_entry leaf ∷ entries_under arena leads.rest
+      span-cons : span front back ≡ key_and_value leaf ∷ entries_under arena leads.rest
       span-cons = ap (entries_under arena) (run-is front back keys leads ∙ leads.begins) ∙ entries-cons front leads.rest leaf at
 
-      pub take-only : front ≡ back → span front back ≡ leaf_entry leaf ∷ []
-      take-only same = span-cons ∙ ap (λ keys. leaf_entry leaf ∷ entries_under arena keys) (only front leads.rest back distinct-here ends-here same)
+      pub take-only : front ≡ back → span front back ≡ key_and_value leaf ∷ []
+      take-only same = span-cons ∙ ap (λ keys. key_and_value leaf ∷ entries_under arena keys) (only front leads.rest back distinct-here ends-here same)
 
       next-is : next_key leaf ≡ first_or leads.rest leads.after
       next-is = ap next_key (same_Some leaf linked-here.0.0 (sym at ∙ linked-here.0.1)) ∙ linked-here.0.3
@@ -113,8 +113,8 @@ module _ {K V : Type 0} {P : ℕ} (arena : NodeArena K V P) where
             ends = subst (λ all. EndsIn all back) (sym some.2) (subst (λ all. EndsIn (front ∷ all) back) some.2 ends-here);
           }
 
-      pub take-more : front ≢ back → (k : ℕ) → next_key leaf ≡ Some k → span front back ≡ leaf_entry leaf ∷ span k back
-      take-more differ k next = span-cons ∙ ap (λ keys. leaf_entry leaf ∷ entries_under arena keys) (sym (run-is k back leads.rest (rest-leads differ k next)))
+      pub take-more : front ≢ back → (k : ℕ) → next_key leaf ≡ Some k → span front back ≡ key_and_value leaf ∷ span k back
+      take-more differ k next = span-cons ∙ ap (λ keys. key_and_value leaf ∷ entries_under arena keys) (sym (run-is k back leads.rest (rest-leads differ k next)))
 
 -- a list that ends with a member is what is before it, and the member
 ends-snoc : (keys : List ℕ) (back : ℕ) → EndsIn keys back → (init : List ℕ) × (keys ≡ init ++ back ∷ [])
@@ -195,18 +195,18 @@ module _ {K V : Type 0} {P : ℕ} (arena : NodeArena K V P) where
               ends = subst (EndsIn init) same (subst (λ all. EndsIn all init-last.1) (sym init-last.2) (ends-push init-last.0 init-last.1));
             }
 
-        pub take-back : (p : ℕ) → previous_key leaf ≡ Some p → span arena front back ≡ span arena front p ++ leaf_entry leaf ∷ []
+        pub take-back : (p : ℕ) → previous_key leaf ≡ Some p → span arena front back ≡ span arena front p ++ key_and_value leaf ∷ []
         take-back p named =
             ap (entries_under arena) (run-is arena front back keys leads ∙ is)
-            ∙ filter_map-append (λ key. option_map leaf_entry (leaf_at arena key)) init (back ∷ [])
+            ∙ filter_map-append (λ key. option_map key_and_value (leaf_at arena key)) init (back ∷ [])
             ∙ ap (λ es. entries_under arena init ++ es) (entries-cons arena back [] leaf at)
-            ∙ ap (λ ks. entries_under arena ks ++ leaf_entry leaf ∷ []) (sym (run-is arena front p init (init-leads p named)))
+            ∙ ap (λ ks. entries_under arena ks ++ key_and_value leaf ∷ []) (sym (run-is arena front p init (init-leads p named)))
 
     pub back-init : (init : List ℕ) × (keys ≡ init ++ back ∷ [])
     back-init = parted
 
     -- of one leaf the back is the front
-    pub take-back-only : (leaf : LeafNode K V P) → leaf_at arena back ≡ Some leaf → front ≡ back → span arena front back ≡ [] ++ leaf_entry leaf ∷ []
+    pub take-back-only : (leaf : LeafNode K V P) → leaf_at arena back ≡ Some leaf → front ≡ back → span arena front back ≡ [] ++ key_and_value leaf ∷ []
     take-back-only leaf at same = take-only arena front back keys leads leaf (subst (λ k. leaf_at arena k ≡ Some leaf) (sym same) at) same
 
 -- leaves but this one are as they were
@@ -219,8 +219,8 @@ module _ {K V : Type 0} {P : ℕ} (old new : NodeArena K V P) (at : ℕ) (others
   pub entries-kept : (keys : List ℕ) → All (λ k. k ≢ at) keys → entries_under new keys ≡ entries_under old keys
   entries-kept [] apart = refl
   entries-kept (k ∷ keys) apart =
-      ap (λ o. cons_option (option_map leaf_entry o) (entries_under new keys)) (others k (All-head (λ k. k ≢ at) k keys apart))
-      ∙ ap (cons_option (option_map leaf_entry (leaf_at old k))) (entries-kept keys (All-tail (λ k. k ≢ at) k keys apart))
+      ap (λ o. cons_option (option_map key_and_value o) (entries_under new keys)) (others k (All-head (λ k. k ≢ at) k keys apart))
+      ∙ ap (cons_option (option_map key_and_value (leaf_at old k))) (entries-kept keys (All-tail (λ k. k ≢ at) k keys apart))
 
   module _ (front back : ℕ) (keys : List ℕ) (leads : LeadsOver old front back keys) (apart : All (λ k. k ≢ at) keys) where
     -- a run without it is the same run
@@ -274,7 +274,7 @@ module _ {K V : Type 0} {P : ℕ} (old : NodeArena K V P) (ends : LeafPtr K V P 
       let leads = rest-leads old front back run.0 run.1 leaf here differ (slab_key next) (sym named) in
       let apart = rest-apart old front back run.0 run.1 in (
         (run.1.rest, leads-kept old new front others (slab_key next) back run.1.rest leads apart),
-        take-more old front back run.0 run.1 leaf here differ (slab_key next) (sym named) ∙ ap (λ es. leaf_entry leaf ∷ es) (sym (span-kept old new front others (slab_key next) back run.1.rest leads apart)),
+        take-more old front back run.0 run.1 leaf here differ (slab_key next) (sym named) ∙ ap (λ es. key_and_value leaf ∷ es) (sym (span-kept old new front others (slab_key next) back run.1.rest leads apart)),
       )
 
   -- the last leaf names the one before it
@@ -282,13 +282,13 @@ module _ {K V : Type 0} {P : ℕ} (old : NodeArena K V P) (ends : LeafPtr K V P 
   step-last here differ previous named new others = by_init (back-init old front back run.0 run.1) previous named
     where
       by_init : (init : List ℕ) × (run.0 ≡ init ++ back ∷ []) → (previous : Option (LeafPtr K V P)) → option_map slab_key previous ≡ previous_key leaf
-          → IsRun new (option_map (λ previous. (ends.0, previous)) previous) × IsTaken Last (run_entries old (Some ends)) (leaf_entry leaf) (run_entries new (option_map (λ previous. (ends.0, previous)) previous))
+          → IsRun new (option_map (λ previous. (ends.0, previous)) previous) × IsEndAndRest Last (run_entries old (Some ends)) (key_and_value leaf) (run_entries new (option_map (λ previous. (ends.0, previous)) previous))
       by_init (init, parts) None named = absurd (none-some (init-last old front back run.0 run.1 init parts differ).1 (named ∙ previous-is old front back run.0 run.1 init parts differ leaf here))
       by_init (init, parts) (Some previous) named =
           let leads = init-leads old front back run.0 run.1 init parts differ leaf here (slab_key previous) (sym named) in
           let apart = (apart-at init back [] (subst AreDistinct parts run.1.distinct)).0 in (
             (init, leads-kept old new back others front (slab_key previous) init leads apart),
-            take-back old front back run.0 run.1 init parts differ leaf here (slab_key previous) (sym named) ∙ ap (λ es. es ++ leaf_entry leaf ∷ []) (sym (span-kept old new back others front (slab_key previous) init leads apart)),
+            take-back old front back run.0 run.1 init parts differ leaf here (slab_key previous) (sym named) ∙ ap (λ es. es ++ key_and_value leaf ∷ []) (sym (span-kept old new back others front (slab_key previous) init leads apart)),
           )
 
 -- the leaf at either end of a run is there

@@ -48,7 +48,7 @@ module _ {K V : Type 0} {P : ℕ} (text : K → List ℕ) (arena : NodeArena K V
           let children : needs.1.node.children ≡ branch_roots branches = ap (λ n. n.children) (sym same) ∙ shows.children in
           inl (
             subst (λ all. IsFewest (length all)) children needs.1.count,
-            leaf-of branches stand (subst (λ all. Contains all (needs.1.byte, needs.1.pointer)) children needs.1.hangs),
+            leaf-of branches stand (subst (λ all. Contains all (needs.1.byte, needs.1.pointer)) children needs.1.is_child),
           )
       | inr below ↦ inr (some-shrinks branches stand below)
     ]

@@ -1,5 +1,5 @@
 -- The entries before and behind a leaf of a tree: where the list is split, and the leaf behind.
-use Rattle.art_routes.proofs.LeafNames.{All, All-head, All-tail, AllHold, AreOn, Ascend, Before, Changes, Contains, Contains-append_right, Contains-get_or, HeldLeaf, HoldsFirst, IsAlone, IsArt, IsFirstAfter, IsSplit, LeafNode, LeafPtr, Less, List, NodeArena, None, OpaqueNodePtr, Option, Some, Spells, Tree, [], ap, append_assoc, are-entries, arith, ascend_rest, entries_of, entries_under, false, filter_map-append, first_or_later, first_there, get_or, held, held_leaf, image_inside, inl, inr, is_before, keys_of, knit-member, leaf-in, leaf_at, leaf_entry, leaf_key, leaf_pointer, leaves, less_differs, map, next-member, next_at, none_below, none_inside, opaque_key, opaque_pointer, option_map, other_text, refl, slab_key, slice_get, subst, sym, text_itself, text_order, texts_of, true, without_text, ℕ, ◌++◌, ◌∙◌, ◌∷◌, ◌≡◌, ◌≢◌}
+use Rattle.art_routes.proofs.LeafNames.{All, All-head, All-tail, AllHold, AreOn, Ascend, Before, Changes, Contains, Contains-append_right, Contains-get_or, HeldLeaf, HoldsFirst, IsAlone, IsArt, IsFirstAfter, IsLinkedList, IsSplit, LeafNode, LeafPtr, Less, List, NodeArena, None, OpaqueNodePtr, Option, Some, Tree, [], ap, append_assoc, are-entries, arith, ascend_rest, entries_of, entries_under, false, filter_map-append, first_or_later, first_there, get_or, held, held_leaf, image_inside, inl, inr, is_before, key_and_value, knit-member, leaf-in, leaf_at, leaf_key, leaf_pointer, leaves, less_differs, map, next-member, next_at, none_below, none_inside, opaque_key, opaque_pointer, option_map, other_text, refl, slab_key, slab_keys_of, slice_get, subst, sym, text_itself, text_order, texts_of, true, without_text, ℕ, ◌++◌, ◌∙◌, ◌∷◌, ◌≡◌, ◌≢◌}
 use Rattle.art_header.specs.declared.node_type.NodeType.TheVariants as kinds
 use Rattle.art_nodes.specs.Leaf.{with_value}
 use Rattle.art_steps.specs.Leaves.{KeepsOtherLeaves}
@@ -70,14 +70,14 @@ module _ {K V : Type 0} {P : ℕ} (text : K → List ℕ) (arena : NodeArena K V
   pub is-held : held arena this ≡ HeldLeaf leaf
   is-held = ap (held_leaf {H = OpaqueNodePtr K V P}) there
 
-  pub key-inside : (root : OpaqueNodePtr K V P) (tree : Tree (OpaqueNodePtr K V P)) → IsAlone text arena root tree → Contains (keys_of (leaves tree)) key
+  pub key-inside : (root : OpaqueNodePtr K V P) (tree : Tree (OpaqueNodePtr K V P)) → IsAlone text arena root tree → Contains (slab_keys_of (leaves tree)) key
   key-inside root tree alone =
       let inside = leaf-in text arena tree alone.is_tree.stands this leaf (alone.no_others this (something-held (held arena this) leaf is-held)) is-held in
       image_inside opaque_key (map (λ pair. pair.0) (leaves tree)) this key refl (image_inside (λ pair. pair.0) (leaves tree) (this, text (leaf_key leaf)) this refl inside)
 
 -- the entry at a cut is that of the leaf
-pub entry-at : {K V : Type 0} {P : ℕ} (arena : NodeArena K V P) (key : ℕ) (entry : K × V) (after : List (K × V)) (holds : HoldsFirst arena (Some key) (entry ∷ after)) → entry ≡ leaf_entry holds.0
-entry-at arena key entry after holds = let both : entry ∷ after ≡ leaf_entry holds.0 ∷ holds.1 = holds.3 in cc
+pub entry-at : {K V : Type 0} {P : ℕ} (arena : NodeArena K V P) (key : ℕ) (entry : K × V) (after : List (K × V)) (holds : HoldsFirst arena (Some key) (entry ∷ after)) → entry ≡ key_and_value holds.0
+entry-at arena key entry after holds = let both : entry ∷ after ≡ key_and_value holds.0 ∷ holds.1 = holds.3 in cc
 
 -- the leaves before and behind the leaf at a cut hold the entries before and behind it
 module _ {K V : Type 0} {P : ℕ} (text : K → List ℕ) (arena : NodeArena K V P) (root : OpaqueNodePtr K V P) (tree : Tree (OpaqueNodePtr K V P)) (alone : IsAlone text arena root tree)
@@ -88,11 +88,11 @@ module _ {K V : Type 0} {P : ℕ} (text : K → List ℕ) (arena : NodeArena K V
   pub is-there : leaf_at arena key ≡ Some leaf-here
   is-there = cut.1.2
 
-  pub entry-is : entry ≡ leaf_entry leaf-here
+  pub entry-is : entry ≡ key_and_value leaf-here
   entry-is = entry-at arena key entry after cut.1
 
-  abbrev parted : (done : List ℕ) × (todo : List ℕ) × (keys_of (leaves tree) ≡ done ++ key ∷ todo)
-  parted = around (keys_of (leaves tree)) key (key-inside text arena key leaf-here is-there root tree alone)
+  abbrev parted : (done : List ℕ) × (todo : List ℕ) × (slab_keys_of (leaves tree) ≡ done ++ key ∷ todo)
+  parted = around (slab_keys_of (leaves tree)) key (key-inside text arena key leaf-here is-there root tree alone)
 
   abbrev pub done : List ℕ
   done = parted.0
@@ -100,16 +100,16 @@ module _ {K V : Type 0} {P : ℕ} (text : K → List ℕ) (arena : NodeArena K V
   abbrev pub todo : List ℕ
   todo = parted.1
 
-  pub keys-are : keys_of (leaves tree) ≡ done ++ key ∷ todo
+  pub keys-are : slab_keys_of (leaves tree) ≡ done ++ key ∷ todo
   keys-are = parted.2
 
-  pub spells-here : Spells arena (done ++ key ∷ todo)
-  spells-here = subst (Spells arena) keys-are alone.spelled
+  pub list-here : IsLinkedList arena (done ++ key ∷ todo)
+  list-here = subst (IsLinkedList arena) keys-are alone.is_linked
 
   under-parts : entries_under arena done ++ entry ∷ entries_under arena todo ≡ before ++ entry ∷ after
   under-parts =
       ap (λ e. entries_under arena done ++ e ∷ entries_under arena todo) entry-is
-      ∙ sym (filter_map-append (λ k. option_map leaf_entry (leaf_at arena k)) done (key ∷ todo) ∙ ap (λ es. entries_under arena done ++ es) (entries-cons arena key todo leaf-here is-there))
+      ∙ sym (filter_map-append (λ k. option_map key_and_value (leaf_at arena k)) done (key ∷ todo) ∙ ap (λ es. entries_under arena done ++ es) (entries-cons arena key todo leaf-here is-there))
       ∙ sym (ap (entries_under arena) keys-are) ∙ entries-of-leaves alone ∙ cut.0
 
   same-parts : (before ≡ entries_under arena done) × (after ≡ entries_under arena todo)
@@ -123,13 +123,13 @@ module _ {K V : Type 0} {P : ℕ} (text : K → List ℕ) (arena : NodeArena K V
 
   -- the leaf behind holds the first of the entries behind
   pub cut-behind : (next : Option ℕ) → next ≡ next_at arena key → IsSplit text arena (before ++ entry ∷ []) next after
-  cut-behind next is = (cut.0 ∙ sym (append_assoc before (entry ∷ []) after), subst (λ o. HoldsFirst arena o after) (sym (is ∙ next-member arena done todo key spells-here)) (by_todo todo refl behind-is))
+  cut-behind next is = (cut.0 ∙ sym (append_assoc before (entry ∷ []) after), subst (λ o. HoldsFirst arena o after) (sym (is ∙ next-member arena done todo key list-here)) (by_todo todo refl behind-is))
     where
       by_todo : (keys : List ℕ) → todo ≡ keys → after ≡ entries_under arena keys → HoldsFirst arena (slice_get keys 0) after
       by_todo [] is none = none
       by_todo (k ∷ keys) is some =
-          let spells = subst (Spells arena) (ap (λ ks. done ++ key ∷ ks) is ∙ sym (append_assoc done (key ∷ []) (k ∷ keys))) spells-here in
-          let (other, found) = held-slot (leaf_at arena k) (knit-member arena (done ++ key ∷ []) keys k spells).held in
+          let is_list = subst (IsLinkedList arena) (ap (λ ks. done ++ key ∷ ks) is ∙ sym (append_assoc done (key ∷ []) (k ∷ keys))) list-here in
+          let (other, found) = held-slot (leaf_at arena k) (knit-member arena (done ++ key ∷ []) keys k is_list).held in
           (other, entries_under arena keys, found, some ∙ entries-cons arena k keys other found)
 
   -- another value in the leaf is another value in the list
@@ -137,14 +137,14 @@ module _ {K V : Type 0} {P : ℕ} (text : K → List ℕ) (arena : NodeArena K V
     pub cut-changed : IsSplit text new before (Some key) ((entry.0, value) ∷ after)
     cut-changed =
         let others = others-stay arena new key changes in
-        let apart = apart-at done key todo spells-here.distinct in
+        let apart = apart-at done key todo list-here.distinct in
         let here : leaf_at new key ≡ Some (with_value leaf-here value) = slot-of (leaf_at new key) (with_value leaf-here value) changes.changed in
-        let now : leaf_entry (with_value leaf-here value) ≡ (entry.0, value) = sym (ap (λ e. (e.0, value)) entry-is) in (
+        let now : key_and_value (with_value leaf-here value) ≡ (entry.0, value) = sym (ap (λ e. (e.0, value)) entry-is) in (
           sym (entries-of-leaves (alone-kept text arena new key leaf-here is-there value changes root tree alone)) ∙ ap (entries_under new) keys-are
-              ∙ filter_map-append (λ k. option_map leaf_entry (leaf_at new k)) done (key ∷ todo)
+              ∙ filter_map-append (λ k. option_map key_and_value (leaf_at new k)) done (key ∷ todo)
               ∙ ap (λ es. es ++ entries_under new (key ∷ todo)) (entries-kept arena new key others done apart.0 ∙ sym before-is)
               ∙ ap (λ es. before ++ es) (entries-cons new key todo (with_value leaf-here value) here)
-              ∙ ap (λ es. before ++ leaf_entry (with_value leaf-here value) ∷ es) (entries-kept arena new key others todo apart.1 ∙ sym behind-is)
+              ∙ ap (λ es. before ++ key_and_value (with_value leaf-here value) ∷ es) (entries-kept arena new key others todo apart.1 ∙ sym behind-is)
               ∙ ap (λ e. before ++ e ∷ after) now,
           (with_value leaf-here value, after, here, ap (λ e. e ∷ after) (sym now)),
         )
@@ -177,4 +177,4 @@ module _ {K V : Type 0} {P : ℕ} {text : K → List ℕ} {arena : NodeArena K V
       let here : OpaqueNodePtr K V P × List ℕ = (leaf_pointer leaf, x) in
       let whole : leaves tree ≡ here ∷ right = is ∙ ap (λ pairs. pairs ++ here ∷ right) (none-early left before) in
       let hold = subst (AllHold text arena) whole (leaves-hold alone) in
-      (hold.0.leaf, held_by text arena right, hold.0.at, sym (entries-of-leaves alone) ∙ ap (held_by text arena) whole ∙ entries-cons arena (slab_key leaf) (keys_of right) hold.0.leaf hold.0.at)
+      (hold.0.leaf, held_by text arena right, hold.0.at, sym (entries-of-leaves alone) ∙ ap (held_by text arena) whole ∙ entries-cons arena (slab_key leaf) (slab_keys_of right) hold.0.leaf hold.0.at)

@@ -1,5 +1,5 @@
 -- A walk along the entries: what was kept, and what is left to visit.
-use Rattle.art_routes.proofs.LeafNames.{All, All-head, All-tail, All-weaker, Ascend, Bool, CallableOnEachPair, Contains-append_right, HoldsFirst, IsSplit, LeafNode, Less, List, NeedsNode, NodeArena, None, OpaqueNodePtr, Option, RetainsPairs, Some, StopsRetaining, [], ap, append_assoc, are-entries, arith, ascend_rest, cond, entries_of, false, filter, image_inside, inl, inr, is_ge, leaf_at, leaf_entry, leaf_key, length, nat_list_cmp_total, none_below, option_map_or, order_itself, ordering_reverse, refl, subst, sym, text_order, texts_of, true, ℕ, ◌++◌, ◌<◌, ◌∙◌, ◌∷◌, ◌≡◌}
+use Rattle.art_routes.proofs.LeafNames.{All, All-head, All-tail, All-weaker, Ascend, Bool, CallableOnEachPair, Contains-append_right, HoldsFirst, IsSplit, LeafNode, Less, List, NeedsNode, NodeArena, None, OpaqueNodePtr, Option, RetainsPairs, Some, StopsRetaining, [], ap, append_assoc, are-entries, arith, ascend_rest, cond, entries_of, false, filter, image_inside, inl, inr, is_ge, key_and_value, leaf_at, leaf_key, length, nat_list_cmp_total, none_below, option_map_or, order_itself, ordering_reverse, refl, subst, sym, text_order, texts_of, true, ℕ, ◌++◌, ◌<◌, ◌∙◌, ◌∷◌, ◌≡◌}
 use Rattle.art_routes.proofs.SplitLemmas.{all-above}
 
 keep-those : {X : Type 0} (p : X → Bool) (xs : List X) → All (λ x. p x ≡ true) xs → filter p xs ≡ xs
@@ -37,7 +37,7 @@ module _ {K V : Type 0} (text : K → List ℕ) where
         let whole = is ∙ ap (λ es. before ++ es) first in
         ap (λ o. option_map_or (λ leaf. length (on-from (text (leaf_key leaf)) (entries_of text arena))) o 0) there
         ∙ ap (λ es. length (on-from (text (leaf_key leaf)) es)) whole
-        ∙ ap length (from-here before (leaf_entry leaf) rest (subst (λ es. Ascend (texts_of text es)) whole (are-entries text arena).ascending)) ∙ sym (ap length first)
+        ∙ ap length (from-here before (key_and_value leaf) rest (subst (λ es. Ascend (texts_of text es)) whole (are-entries text arena).ascending)) ∙ sym (ap length first)
 
 -- the removal of this key needs a node
 abbrev pub key-needs : {K V : Type 0} {P : ℕ} → (K → List ℕ) → NodeArena K V P → K → Type 0
@@ -74,7 +74,7 @@ module _ {F K V : Type 0} {P : ℕ} {text : K → List ℕ} {T : F → K → V �
     leaf-now = first-now.0
 
     abbrev pub entry-now : K × V
-    entry-now = leaf_entry leaf-now
+    entry-now = key_and_value leaf-now
 
     abbrev pub rest-now : List (K × V)
     rest-now = first-now.1

@@ -14,7 +14,7 @@ use Rattle.art_nodes.specs.declared.leaf_node.LeafNode.{LeafNode}
 use Rattle.art_arena.specs.Arena.{NodeArena, HeldInner, HeldLeaf, Nothing, held}
 use Rattle.art_arena.specs.Standing.{AllStandIn, NodeStands, StandsIn, leaf_text}
 use Rattle.art_arena.specs.Trees.{Tree, Leaf, Inner, Branches, NoBranch, Branch, branch_leaves, branch_roots, leaves, root_of, texts, branch_texts, IsSound, AreSound}
-use Rattle.art_routes.specs.Ways.{AreKeys, IsBelow}
+use Rattle.art_routes.specs.Ways.{HaveKeyTexts, IsBelow}
 use Rattle.art_arena.proofs.TreeLaws.{GoesOn, texts-begin, texts-go-on, texts-some}
 
 -- ---- lists
@@ -72,7 +72,7 @@ module _ (key text path prefix : List ℕ) (depth : ℕ) (path_is : path ≡ tak
 -- ---- trees
 module _ {K V : Type 0} {P : ℕ} (text : K → List ℕ) (arena : NodeArena K V P) (IsKeyText : List ℕ → Type 0) where
   abbrev pub Keys : List (OpaqueNodePtr K V P × List ℕ) → Type 0
-  Keys ls = AreKeys IsKeyText ls
+  Keys ls = HaveKeyTexts IsKeyText ls
 
   abbrev pub Below : List ℕ → OpaqueNodePtr K V P → Tree (OpaqueNodePtr K V P) → Type 0
   Below path pointer tree = IsBelow text arena IsKeyText path pointer tree

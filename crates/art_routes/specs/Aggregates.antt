@@ -4,7 +4,7 @@ use Rattle.art_routes.specs.Shrinking.{NeedsNode}
 use Rattle.art_routes.specs.declared.address.Address.{Address}
 use Rattle.art_routes.specs.Keys.{key_text}
 use Rattle.art_routes.specs.Networks.{Block, IsNetwork, covers}
-use Rattle.art_routes.specs.Tables.{IsLongest, IsParent, NoneContains, value_of}
+use Rattle.art_routes.specs.Tables.{IsLongest, IsParent, NoneContains, route_value}
 
 -- the two networks are those of one bit more inside the whole, the left one first
 pub record AreHalves (left right whole : Block) : Type 0 where
@@ -45,7 +45,7 @@ module _ {V : Type 0} (eq : V → V → Bool) where
     pub right_listed : Contains routes right
     pub are_halves : AreHalves left.0 right.0 whole
     pub same_value : eq left.1 right.1 ≡ true
-    pub no_route : value_of routes whole ≡ None
+    pub no_route : route_value routes whole ≡ None
 
   -- a route has the value of the longest one around it, and its removal needs a node
   pub record NeedsRemoval (H : Type 0) (routes : List (Block × V)) : Type 0 where

@@ -3,7 +3,7 @@ use Rattle.std.specs.Prelude.{◌≡◌, ◌⊎◌, ◌<◌, ◌≤◌, ◌-◌,
 use Rattle.art_nodes.specs.ChildMap.{ChildMap, child_at}
 use Rattle.art_routes.specs.declared.address.Address.{Address}
 use Rattle.art_routes.specs.declared.ends.TheConstants.{SHORTER}
-use Rattle.art_routes.specs.Keys.{end_byte, key_text}
+use Rattle.art_routes.specs.Keys.{key_text, last_network_byte}
 use Rattle.art_routes.specs.Ways.{IsEndAt}
 
 -- this is one of the bytes
@@ -46,7 +46,7 @@ pub record IsKeyOf (key : List ℕ) (address : Address) (most : ℕ) : Type 0 wh
 pub record IsLongest (address : Address) (most place end : ℕ) : Type 0 where
   pub rest : ℕ
   pub at : IsEndAt most place rest
-  pub is : end ≡ end_byte address (place - 1) rest
+  pub is : end ≡ last_network_byte address (place - 1) rest
   pub longest : (other : ℕ) → IsEndAt most place other → other ≤ rest
 
 module _ (key : List ℕ) (place : ℕ) where

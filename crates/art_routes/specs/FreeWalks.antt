@@ -49,9 +49,9 @@ IsFreeWalk last None = Unit {0}
 IsFreeWalk last (Some part) = IsBefore last part
 
 -- the first network of so many bits inside a network, if there is one
-abbrev pub IsFirst : Block → ℕ → Option Block → Type 0
-IsFirst network length None = (length < network.length) ⊎ (network.address.width < length)
-IsFirst network length (Some first) = (network.length ≤ length) × (length ≤ network.address.width) × (first ≡ network_around network.address length)
+abbrev pub IsFirstInside : Block → ℕ → Option Block → Type 0
+IsFirstInside network length None = (length < network.length) ⊎ (network.address.width < length)
+IsFirstInside network length (Some first) = (network.length ≤ length) × (length ≤ network.address.width) × (first ≡ network_around network.address length)
 
 -- the network of so many bits behind an address, if it begins no later than the last one
 abbrev pub IsBehind : Address → ℕ → ℕ → Option Block → Type 0
@@ -60,7 +60,7 @@ IsBehind address length last (Some part) =
     (first_bits address length < last / 2 ^ (address.width - length)) × (part ≡ part_at address.width length (suc (first_bits address length)))
 
 -- the first network of so many bits inside a network that begins behind the last address of another one, if there is one
-abbrev pub IsNext : Block → ℕ → Block → Option Block → Type 0
-IsNext network length after next =
+abbrev pub IsNextInside : Block → ℕ → Block → Option Block → Type 0
+IsNextInside network length after next =
     (IsBehind (last_network after).address length (last_network network).address.bits next × (network.length ≤ length) × (length ≤ network.address.width))
     ⊎ ((next ≡ None) × ((length < network.length) ⊎ (network.address.width < length)))

@@ -9,7 +9,7 @@ use Rattle.std.proofs.lemmas.List.Elements.{All-cons}
 use Rattle.std.proofs.lemmas.Nat.{mod-pow-add, mod_low, pow_pos, shl-shr, shl_below, shr-shr}
 use Rattle.art_bytes.specs.Text.{IsPrefixOf, text_order}
 use Rattle.art_routes.specs.declared.address.Address.{Address}
-use Rattle.art_routes.specs.Keys.{end_byte, key_text, left}
+use Rattle.art_routes.specs.Keys.{key_text, last_network_byte, left}
 use Rattle.art_routes.specs.Networks.{Block, IsNetwork, first_bits, network_order}
 use Rattle.art_routes.specs.StrideLaws.{AreAlone, Before, are_alone, equal_is, fewer_strides, head_less, head_same, less_is, no_prefix, same_strides, strides_bytes, strides_long, strides_order}
 use Rattle.art_routes.specs.Strides.{strides}
@@ -156,15 +156,15 @@ cut_key a address a_is widths first =
 
 -- and that of fewer bits of an address is the first bytes of that of more, and one more byte
 pub shorter_key : (address : Address) (n l : ℕ) → n ≤ l
-    → key_text (record { address = address; length = n }) ≡ take (suc (n / 7)) (key_text (record { address = address; length = l })) ++ end_byte address (n / 7) (n % 7) ∷ []
-unfolding key_text end_byte
+    → key_text (record { address = address; length = n }) ≡ take (suc (n / 7)) (key_text (record { address = address; length = l })) ++ last_network_byte address (n / 7) (n % 7) ∷ []
+unfolding key_text last_network_byte
 shorter_key address n l shorter =
     let few : n / 7 ≤ l / 7 = omega (arith, shorter) in
     ap (λ xs. address.width ∷ xs) (fewer_strides (n / 7) (l / 7) (n % 7) (l % 7) (left address) few)
 
 -- they are bytes
-pub key_bytes : (network : Block) → IsNetwork network → All (λ byte. byte < 256) (key_text network)
+pub network_key-bytes : (network : Block) → IsNetwork network → All (λ byte. byte < 256) (key_text network)
 unfolding key_text
-key_bytes network is =
+network_key-bytes network is =
     All-cons (λ byte. byte < 256) network.address.width (strides (network.length / 7) (network.length % 7) (left network.address)) (omega (arith, width_most network is))
     (strides_bytes (network.length / 7) (network.length % 7) (left network.address) (rest_fits network is) (left_fits network is))

@@ -16,8 +16,8 @@ unfoldable pub key_text : Block → List ℕ
 key_text network = network.address.width ∷ strides (network.length / 7) (network.length % 7) (left network.address)
 
 -- the last byte of the network of the first bits of an address: of so many strides of seven, and some bits
-unfoldable pub end_byte : Address → ℕ → ℕ → ℕ
-end_byte address place rest = symbol (kept rest (stride_at place (left address))) rest
+unfoldable pub last_network_byte : Address → ℕ → ℕ → ℕ
+last_network_byte address place rest = symbol (kept rest (stride_at place (left address))) rest
 
 -- the network of a key: of its first byte, the bytes of the first address, and how many bits are given
 abbrev pub block_of : List ℕ → List ℕ → ℕ → Block

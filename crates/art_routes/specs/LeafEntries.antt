@@ -9,8 +9,8 @@ use Rattle.art_arena.specs.Links.{leaf_at}
 use Rattle.art_steps.specs.Dictionary.{entry_at}
 
 -- the slab keys of leaves
-abbrev pub keys_of : {K V : Type 0} {P : ℕ} → List (OpaqueNodePtr K V P × List ℕ) → List ℕ
-keys_of all = map opaque_key (map (λ leaf. leaf.0) all)
+abbrev pub slab_keys_of : {K V : Type 0} {P : ℕ} → List (OpaqueNodePtr K V P × List ℕ) → List ℕ
+slab_keys_of all = map opaque_key (map (λ leaf. leaf.0) all)
 
 module _ {K V : Type 0} {P : ℕ} (text : K → List ℕ) (arena : NodeArena K V P) where
   -- the leaf at the pointer holds the entry of this text

@@ -26,29 +26,29 @@ at_end First ends = ends.0
 at_end Last ends = ends.1
 
 -- the one list is the other, and this item at this end of it
-abbrev pub IsTaken : {X : Type 0} → End → List X → X → List X → Type 0
-IsTaken First old x new = old ≡ x ∷ new
-IsTaken Last old x new = old ≡ new ++ x ∷ []
+abbrev pub IsEndAndRest : {X : Type 0} → End → List X → X → List X → Type 0
+IsEndAndRest First old x new = old ≡ x ∷ new
+IsEndAndRest Last old x new = old ≡ new ++ x ∷ []
 
 module _ {K V : Type 0} {P : ℕ} where
   -- key and value of a leaf
-  abbrev pub leaf_entry : LeafNode K V P → K × V
-  leaf_entry leaf = (leaf_key leaf, leaf_value leaf)
+  abbrev pub key_and_value : LeafNode K V P → K × V
+  key_and_value leaf = (leaf_key leaf, leaf_value leaf)
 
   -- the slab keys from one leaf to another, as each names the next; at most so many
-  abbrev pub keys_between : NodeArena K V P → ℕ → ℕ → ℕ → List ℕ
-  keys_between arena zero front back = []
-  keys_between arena (suc count) front back =
-      front ∷ (if front == back then [] else option_map_or (λ next. keys_between arena count next back) (next_at arena front) [])
+  abbrev pub slab_keys_between : NodeArena K V P → ℕ → ℕ → ℕ → List ℕ
+  slab_keys_between arena zero front back = []
+  slab_keys_between arena (suc count) front back =
+      front ∷ (if front == back then [] else option_map_or (λ next. slab_keys_between arena count next back) (next_at arena front) [])
 
   -- the entries of the leaves under these slab keys
   abbrev pub entries_under : NodeArena K V P → List ℕ → List (K × V)
-  entries_under arena keys = filter_map (λ key. option_map leaf_entry (leaf_at arena key)) keys
+  entries_under arena keys = filter_map (λ key. option_map key_and_value (leaf_at arena key)) keys
 
   -- the entries from the leaf at the front to the leaf at the back, both included, as the links have them
   abbrev pub run_entries : NodeArena K V P → Option (LeafPtr K V P × LeafPtr K V P) → List (K × V)
   run_entries arena None = []
-  run_entries arena (Some ends) = entries_under arena (keys_between arena (length arena.leaf.slots) (slab_key ends.0) (slab_key ends.1))
+  run_entries arena (Some ends) = entries_under arena (slab_keys_between arena (length arena.leaf.slots) (slab_key ends.0) (slab_key ends.1))
 
   -- each of these leaves names its neighbours; the first names this one before it, the last that one after it
   abbrev pub LinksOver : NodeArena K V P → Option ℕ → List ℕ → Option ℕ → Type 0
@@ -77,4 +77,4 @@ module _ {K V : Type 0} {P : ℕ} where
   abbrev pub StepsOver : NodeArena K V P → End → LeafPtr K V P × LeafPtr K V P → LeafNode K V P → Option (LeafPtr K V P × LeafPtr K V P) → Type 0
   StepsOver arena end ends leaf rest =
       (new : NodeArena K V P) → ((key : ℕ) → key ≢ slab_key (at_end end ends) → leaf_at new key ≡ leaf_at arena key)
-      → IsRun new rest × IsTaken end (run_entries arena (Some ends)) (leaf_entry leaf) (run_entries new rest)
+      → IsRun new rest × IsEndAndRest end (run_entries arena (Some ends)) (key_and_value leaf) (run_entries new rest)

@@ -8,7 +8,7 @@ use Rattle.art_arena.specs.Arena.{LeafPtr, NodeArena}
 use Rattle.art_arena.specs.Links.{leaf_at}
 use Rattle.art_tree.specs.Entries.{entries_of}
 use Rattle.art_steps.specs.Refusals.{texts_of}
-use Rattle.art_routes.specs.LeafRuns.{leaf_entry}
+use Rattle.art_routes.specs.LeafRuns.{key_and_value}
 use Rattle.art_routes.specs.Shrinking.{NeedsNode}
 
 module _ {K V : Type 0} {P : ℕ} where
@@ -16,7 +16,7 @@ module _ {K V : Type 0} {P : ℕ} where
   abbrev pub HoldsFirst : NodeArena K V P → Option ℕ → List (K × V) → Type 0
   HoldsFirst arena None entries = entries ≡ []
   HoldsFirst arena (Some key) entries =
-      (leaf : LeafNode K V P) × (rest : List (K × V)) × (leaf_at arena key ≡ Some leaf) × (entries ≡ leaf_entry leaf ∷ rest)
+      (leaf : LeafNode K V P) × (rest : List (K × V)) × (leaf_at arena key ≡ Some leaf) × (entries ≡ key_and_value leaf ∷ rest)
 
   -- the entries of an arena are these, and behind them those that begin at the leaf under this slab key
   abbrev pub IsSplit : (K → List ℕ) → NodeArena K V P → List (K × V) → Option ℕ → List (K × V) → Type 0

@@ -25,6 +25,6 @@ module _ {H : Type 0} (side : Side) (key : List ℕ) where
       × AreOn side key true (left ++ (pointer, text) ∷ []) × AreOn side key false right
 
   -- the first of these leaves after this side of the key, or the last before it
-  abbrev pub IsNearest : End → List (H × List ℕ) → Option H → Type 0
-  IsNearest First leaves found = IsFirstAfter leaves found
-  IsNearest Last leaves found = IsLastBefore leaves found
+  abbrev pub IsBesideKeyOrNone : End → List (H × List ℕ) → Option H → Type 0
+  IsBesideKeyOrNone First leaves found = IsFirstAfter leaves found
+  IsBesideKeyOrNone Last leaves found = IsLastBefore leaves found

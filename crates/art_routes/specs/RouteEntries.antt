@@ -20,9 +20,9 @@ module _ {T : Type 0} where
   entry_network (Vacant entry) = entry.network
 
   -- whether the route is there
-  abbrev pub is_occupied : RouteEntryOver T → Bool
-  is_occupied (Occupied entry) = true
-  is_occupied (Vacant entry) = false
+  abbrev pub is_route_listed : RouteEntryOver T → Bool
+  is_route_listed (Occupied entry) = true
+  is_route_listed (Vacant entry) = false
 
 -- a table ends with the value that was left behind the reference in the route to this network, or unchanged
 abbrev pub LendsPutRoute : (V : RattleType) {E : Type 0} → MutBor (List (Block × V.Denot)) → Block → Result (MutBor V.Denot) E → Fml

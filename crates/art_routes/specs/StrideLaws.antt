@@ -8,7 +8,7 @@ use Rattle.std.proofs.lemmas.Cmp.{by_ranked, ranked}
 use Rattle.std.proofs.lemmas.Bool.{cases_lt}
 use Rattle.std.proofs.lemmas.List.Elements.{All-cons, All-nil}
 use Rattle.std.proofs.lemmas.Nat.{field_of, mod-pow-add, mod_below, mod_low, mul-mod_first, pow-add, pow_pos, shl-shr, shr-shr}
-use Rattle.art_routes.specs.Strides.{behind, kept, stride, stride_at, strides, symbol}
+use Rattle.art_routes.specs.Strides.{bits_behind, kept, stride, stride_at, strides, symbol}
 
 -- a lesser stride has a lesser byte, whichever bits are kept
 pub byte_less : (a b j k : ℕ) → j ≤ 7 → k ≤ 7 → a < b → b < 128 → b % 2 ^ (7 - k) ≡ 0 → symbol a j < symbol b k
@@ -61,12 +61,12 @@ kept_whole (suc (suc (suc (suc (suc (suc (suc r))))))) n few fits none = absurd 
 -- no bit of the number is set behind the first strides and some more bits
 abbrev pub AreAlone : ℕ → ℕ → ℕ → Type 0
 AreAlone zero rest number = number ≡ kept rest (stride number) * 2 ^ 121
-AreAlone (suc count) rest number = AreAlone count rest (behind number)
+AreAlone (suc count) rest number = AreAlone count rest (bits_behind number)
 
 stride_fits : (n : ℕ) → n < 2 ^ 128 → stride n < 128
 stride_fits n fits = omega arith
 
-behind_fits : (n : ℕ) → behind n < 2 ^ 128
+behind_fits : (n : ℕ) → bits_behind n < 2 ^ 128
 behind_fits n = omega arith
 
 pub less_is : (x y : ℕ) → x < y → nat_cmp x y ≡ Less
@@ -99,27 +99,27 @@ strides_order zero r n zero s m few short fits fits_too alone alone_too (inr (sa
 strides_order zero r n (suc p) s m few short fits fits_too alone alone_too before =
     let most : n ≤ m = elim before [ inl less ↦ omega (arith, less) | inr same ↦ omega (arith, same.0) ] in
     elim (cases_lt (kept r (stride n)) (stride m)) [
-      | inl less ↦ head_less (symbol (kept r (stride n)) r) (symbol (stride m) 7) [] (strides p s (behind m)) (byte_less (kept r (stride n)) (stride m) r 7 (omega arith) (omega arith) less (omega arith) (omega arith))
+      | inl less ↦ head_less (symbol (kept r (stride n)) r) (symbol (stride m) 7) [] (strides p s (bits_behind m)) (byte_less (kept r (stride n)) (stride m) r 7 (omega arith) (omega arith) less (omega arith) (omega arith))
       | inr not_less ↦
           let equal : kept r (stride n) ≡ stride m = omega (arith, not_less, alone, most) in
-          head_less (symbol (kept r (stride n)) r) (symbol (stride m) 7) [] (strides p s (behind m)) (omega (arith, equal, few))
+          head_less (symbol (kept r (stride n)) r) (symbol (stride m) 7) [] (strides p s (bits_behind m)) (omega (arith, equal, few))
     ]
 strides_order (suc q) r n zero s m few short fits fits_too alone alone_too (inl less) =
-    head_less (symbol (stride n) 7) (symbol (kept s (stride m)) s) (strides q r (behind n)) [] (before_kept (stride n) (stride m) 7 s (omega arith) (omega arith) (omega arith) (omega (arith, alone_too, less)))
+    head_less (symbol (stride n) 7) (symbol (kept s (stride m)) s) (strides q r (bits_behind n)) [] (before_kept (stride n) (stride m) 7 s (omega arith) (omega arith) (omega arith) (omega (arith, alone_too, less)))
 strides_order (suc q) r n zero s m few short fits fits_too alone alone_too (inr (same, fewer)) = absurd (omega (arith, fewer, short))
 strides_order (suc q) r n (suc p) s m few short fits fits_too alone alone_too before =
     elim (cases_lt (stride n) (stride m)) [
-      | inl less ↦ head_less (symbol (stride n) 7) (symbol (stride m) 7) (strides q r (behind n)) (strides p s (behind m)) (byte_less (stride n) (stride m) 7 7 (omega arith) (omega arith) less (omega arith) (omega arith))
+      | inl less ↦ head_less (symbol (stride n) 7) (symbol (stride m) 7) (strides q r (bits_behind n)) (strides p s (bits_behind m)) (byte_less (stride n) (stride m) 7 7 (omega arith) (omega arith) less (omega arith) (omega arith))
       | inr not_less ↦
           let most : n ≤ m = elim before [ inl less ↦ omega (arith, less) | inr same ↦ omega (arith, same.0) ] in
           let equal : stride n ≡ stride m = omega (arith, not_less, most) in
-          head_same (symbol (stride n) 7) (symbol (stride m) 7) (strides q r (behind n)) (strides p s (behind m)) (ap (λ a. symbol a 7) equal)
-          (strides_order q r (behind n) p s (behind m) few short (behind_fits n) (behind_fits m) alone alone_too (later before equal))
+          head_same (symbol (stride n) 7) (symbol (stride m) 7) (strides q r (bits_behind n)) (strides p s (bits_behind m)) (ap (λ a. symbol a 7) equal)
+          (strides_order q r (bits_behind n) p s (bits_behind m) few short (behind_fits n) (behind_fits m) alone alone_too (later before equal))
     ]
   where
-    later : Before n (7 * suc q + r) m (7 * suc p + s) → stride n ≡ stride m → Before (behind n) (7 * q + r) (behind m) (7 * p + s)
+    later : Before n (7 * suc q + r) m (7 * suc p + s) → stride n ≡ stride m → Before (bits_behind n) (7 * q + r) (bits_behind m) (7 * p + s)
     later (inl less) equal = inl (omega (arith, less, equal))
-    later (inr (same, fewer)) equal = inr (ap behind same, omega (arith, fewer))
+    later (inr (same, fewer)) equal = inr (ap bits_behind same, omega (arith, fewer))
 
 -- ---- what the strides of a number begin with
 same_stride : (q r n p s m : ℕ) → n < 2 ^ 128 → m < 2 ^ 128 → symbol (stride n) 7 ≡ symbol (stride m) 7 → stride n ≡ stride m
@@ -151,21 +151,21 @@ no_prefix (suc q) r n zero s m few short fits fits_too rest is =
     let same : symbol (kept s (stride m)) s ≡ symbol (stride n) 7 = cc in
     absurd (not_whole s (stride m) (stride n) short (omega arith) (omega arith) same)
 no_prefix (suc q) r n (suc p) s m few short fits fits_too rest is =
-    let more : strides p s (behind m) ≡ strides q r (behind n) ++ rest = cc in
-    no_prefix q r (behind n) p s (behind m) few short (behind_fits n) (behind_fits m) rest more
+    let more : strides p s (bits_behind m) ≡ strides q r (bits_behind n) ++ rest = cc in
+    no_prefix q r (bits_behind n) p s (bits_behind m) few short (behind_fits n) (behind_fits m) rest more
 
 pub strides_long : (q r n : ℕ) → length (strides q r n) ≡ suc q
 strides_long zero r n = refl
-strides_long (suc q) r n = ap suc (strides_long q r (behind n))
+strides_long (suc q) r n = ap suc (strides_long q r (bits_behind n))
 
 -- fewer strides of a number are the first of more of them, and one that is cut
 pub fewer_strides : (i q j r n : ℕ) → i ≤ q → strides i j n ≡ take i (strides q r n) ++ symbol (kept j (stride_at i n)) j ∷ []
 fewer_strides zero q j r n less = refl
 fewer_strides (suc i) zero j r n less = absurd (omega arith)
-fewer_strides (suc i) (suc q) j r n less = ap (λ rest. symbol (stride n) 7 ∷ rest) (fewer_strides i q j r (behind n) (omega arith))
+fewer_strides (suc i) (suc q) j r n less = ap (λ rest. symbol (stride n) 7 ∷ rest) (fewer_strides i q j r (bits_behind n) (omega arith))
 
 -- the stride at a place
-pub behind_is : (n : ℕ) → behind n ≡ n * 2 ^ 7 % 2 ^ 128
+pub behind_is : (n : ℕ) → bits_behind n ≡ n * 2 ^ 7 % 2 ^ 128
 behind_is n = omega arith
 
 pub stride_shifted : (i n : ℕ) → n < 2 ^ 128 → stride_at i n ≡ n * 2 ^ (7 * i) % 2 ^ 128 / 2 ^ 121
@@ -174,12 +174,12 @@ stride_shifted (suc i) n fits =
     let one : n * 2 ^ 7 % 2 ^ 128 * 2 ^ (7 * i) % 2 ^ 128 ≡ n * 2 ^ 7 * 2 ^ (7 * i) % 2 ^ 128 = mul-mod_first (n * 2 ^ 7) (2 ^ (7 * i)) (2 ^ 128) in
     let sum : 7 * suc i ≡ 7 + 7 * i = omega arith in
     let power : 2 ^ (7 * suc i) ≡ 2 ^ 7 * 2 ^ (7 * i) = ap (λ e. 2 ^ e) sum ∙ pow-add 2 7 (7 * i) in
-    stride_shifted i (behind n) (behind_fits n)
+    stride_shifted i (bits_behind n) (behind_fits n)
     ∙ ap (λ m. m * 2 ^ (7 * i) % 2 ^ 128 / 2 ^ 121) (behind_is n)
     ∙ ap (λ m. m / 2 ^ 121) (one ∙ ap (λ m. m % 2 ^ 128) (mul_assoc n (2 ^ 7) (2 ^ (7 * i)) ∙ ap (λ m. n * m) (sym power)))
 
 -- no bit is set behind the first ones
-tail_clear : (k n : ℕ) → k ≤ 121 → n % 2 ^ k ≡ 0 → behind n % 2 ^ (k + 7) ≡ 0
+tail_clear : (k n : ℕ) → k ≤ 121 → n % 2 ^ k ≡ 0 → bits_behind n % 2 ^ (k + 7) ≡ 0
 tail_clear k n few none =
     let x = n % 2 ^ 121 in
     let sum : 121 - k + k ≡ 121 = omega (arith, few) in
@@ -196,7 +196,7 @@ pub are_alone : (q r n k : ℕ) → r < 7 → n < 2 ^ 128 → k + (7 * q + r) �
 are_alone zero r n k few fits sum none =
     let is : k ≡ 128 - r = omega (arith, sum) in
     kept_whole r n few fits (ap (λ e. n % 2 ^ e) (sym is) ∙ none)
-are_alone (suc q) r n k few fits sum none = are_alone q r (behind n) (k + 7) few (behind_fits n) (omega (arith, sum)) (tail_clear k n (omega (arith, sum)) none)
+are_alone (suc q) r n k few fits sum none = are_alone q r (bits_behind n) (k + 7) few (behind_fits n) (omega (arith, sum)) (tail_clear k n (omega (arith, sum)) none)
 
 -- numbers with the same first bits have the same strides of them
 pub same_strides : (q r n m k : ℕ) → r < 7 → k + (7 * q + r) ≡ 128 → n / 2 ^ k ≡ m / 2 ^ k → strides q r n ≡ strides q r m
@@ -213,11 +213,11 @@ same_strides (suc q) r n m k few sum same =
     let low = λ (x : ℕ).
     ap (λ e. x % 2 ^ 121 * 2 ^ 7 / 2 ^ e) (sym sevens) ∙ sym (shr-shr (x % 2 ^ 121 * 2 ^ 7) 7 k) ∙ ap (λ y. y / 2 ^ k) (shl-shr (x % 2 ^ 121) 7)
     ∙ ap (λ e. x % 2 ^ e / 2 ^ k) (sym turned) ∙ field_of x (121 - k) k in
-    let rest = same_strides q r (behind n) (behind m) (k + 7) few (omega (arith, sum)) (low n ∙ ap (λ y. y % 2 ^ (121 - k)) same ∙ sym (low m)) in
+    let rest = same_strides q r (bits_behind n) (bits_behind m) (k + 7) few (omega (arith, sum)) (low n ∙ ap (λ y. y % 2 ^ (121 - k)) same ∙ sym (low m)) in
     λ i. symbol (top i) 7 ∷ rest i
 
 pub strides_bytes : (q r n : ℕ) → r < 7 → n < 2 ^ 128 → All (λ byte. byte < 256) (strides q r n)
 strides_bytes zero r n few fits =
     All-cons (λ byte. byte < 256) (symbol (kept r (stride n)) r) [] (byte_fits (kept r (stride n)) r (omega arith) (kept_fits r (stride n) (omega arith))) (All-nil (λ byte. byte < 256))
 strides_bytes (suc q) r n few fits =
-    All-cons (λ byte. byte < 256) (symbol (stride n) 7) (strides q r (behind n)) (byte_fits (stride n) 7 (omega arith) (omega arith)) (strides_bytes q r (behind n) few (behind_fits n))
+    All-cons (λ byte. byte < 256) (symbol (stride n) 7) (strides q r (bits_behind n)) (byte_fits (stride n) 7 (omega arith) (omega arith)) (strides_bytes q r (bits_behind n) few (behind_fits n))

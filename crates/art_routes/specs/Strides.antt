@@ -14,15 +14,15 @@ kept count bits = bits / 2 ^ (7 - count) * 2 ^ (7 - count)
 abbrev pub stride : ℕ → ℕ
 stride number = number / 2 ^ 121
 
-abbrev pub behind : ℕ → ℕ
-behind number = number % 2 ^ 121 * 2 ^ 7
+abbrev pub bits_behind : ℕ → ℕ
+bits_behind number = number % 2 ^ 121 * 2 ^ 7
 
 -- the bytes of the first bits of a number: so many strides of seven, and one of fewer
 abbrev pub strides : ℕ → ℕ → ℕ → List ℕ
 strides zero rest number = symbol (kept rest (stride number)) rest ∷ []
-strides (suc count) rest number = symbol (stride number) 7 ∷ strides count rest (behind number)
+strides (suc count) rest number = symbol (stride number) 7 ∷ strides count rest (bits_behind number)
 
 -- the stride behind so many others
 abbrev pub stride_at : ℕ → ℕ → ℕ
 stride_at zero number = stride number
-stride_at (suc place) number = stride_at place (behind number)
+stride_at (suc place) number = stride_at place (bits_behind number)

@@ -17,9 +17,9 @@ module _ {V : Type 0} where
   AreInOrder routes = AllPairs (λ a b. network_order a.0 b.0 ≡ Less) routes
 
   -- the value of the route to this network
-  abbrev pub value_of : List (Block × V) → Block → Option V
-  value_of [] network = None
-  value_of (route ∷ routes) network = if is_eq (network_order route.0 network) then Some route.1 else value_of routes network
+  abbrev pub route_value : List (Block × V) → Block → Option V
+  route_value [] network = None
+  route_value (route ∷ routes) network = if is_eq (network_order route.0 network) then Some route.1 else route_value routes network
 
   -- the routes with this one before the first to a later network, or in place of the one to its network
   abbrev pub put_route : List (Block × V) → Block → V → List (Block × V)
@@ -105,4 +105,4 @@ module _ {V : Type 0} where
     pub before : List (Block × V)
     pub rest : List (Block × V)
     pub listed : routes ≡ before ++ route ∷ rest
-    pub no_route : value_of (put_routes [] before) route.0 ≡ None
+    pub no_route : route_value (put_routes [] before) route.0 ≡ None

@@ -53,9 +53,9 @@ abbrev pub network_text : Block → List ℕ
 network_text network = address_text network.address ++ codes "/" ++ decimal network.length
 
 -- what is printed of an address and a length that make no network
-abbrev pub fault_text : NetworkFault → List ℕ
-fault_text Network.LengthTooGreat = codes "length above the bits of the address"
-fault_text Network.BitsBehindLength = codes "bits set behind the length"
+abbrev pub network_fault_text : NetworkFault → List ℕ
+network_fault_text Network.LengthTooGreat = codes "length above the bits of the address"
+network_fault_text Network.BitsBehindLength = codes "bits set behind the length"
 
 -- and of a text that writes none
 abbrev pub text_fault_text : NetworkTextFault → List ℕ

@@ -8,19 +8,19 @@ use Rattle.art_arena.specs.Arena.{NodeArena, HeldLeaf, held}
 use Rattle.art_arena.specs.Standing.{StandsIn}
 use Rattle.art_arena.specs.Trees.{Tree, IsSound, leaves, root_of}
 use Rattle.art_routes.specs.declared.address.Address.{Address}
-use Rattle.art_routes.specs.Keys.{end_byte, key_text}
+use Rattle.art_routes.specs.Keys.{key_text, last_network_byte}
 use Rattle.art_routes.specs.Networks.{Block, IsNetwork, covers}
 
 -- each of these leaves has the text of a key
-abbrev pub AreKeys : {H : Type 0} → (List ℕ → Type 0) → List (H × List ℕ) → Type 0
-AreKeys {H = H} IsKeyText leaves = (l : H × List ℕ) → Contains leaves l → IsKeyText l.1
+abbrev pub HaveKeyTexts : {H : Type 0} → (List ℕ → Type 0) → List (H × List ℕ) → Type 0
+HaveKeyTexts {H = H} IsKeyText leaves = (l : H × List ℕ) → Contains leaves l → IsKeyText l.1
 
 -- a tree of such keys stands in an arena at a pointer, under this path
 pub record IsBelow {K V : Type 0} {P : ℕ} (text : K → List ℕ) (arena : NodeArena K V P) (IsKeyText : List ℕ → Type 0) (path : List ℕ) (pointer : OpaqueNodePtr K V P) (tree : Tree (OpaqueNodePtr K V P)) : Type 0 where
   pub at_root : root_of tree ≡ pointer
   pub stands : StandsIn text arena tree
   pub sound : IsSound path tree
-  pub keys : AreKeys IsKeyText (leaves tree)
+  pub keys : HaveKeyTexts IsKeyText (leaves tree)
 
 -- the bytes are those of a network
 abbrev pub IsNetworkText : List ℕ → Type 0
@@ -35,21 +35,21 @@ pub record IsEndAt (most place rest : ℕ) : Type 0 where
 module _ {H : Type 0} (address : Address) (most place : ℕ) (children : ChildMap H) where
   -- no route around the address ends at this place
   abbrev pub NoEnd : Type 0
-  NoEnd = (rest : ℕ) → IsEndAt most place rest → child_at children (end_byte address (place - 1) rest) ≡ None
+  NoEnd = (rest : ℕ) → IsEndAt most place rest → child_at children (last_network_byte address (place - 1) rest) ≡ None
 
   -- this child is that of the longest route that does
   pub record IsLastEnd (child : H) : Type 0 where
     pub rest : ℕ
     pub end : IsEndAt most place rest
-    pub is : child_at children (end_byte address (place - 1) rest) ≡ Some child
-    pub last : (other : ℕ) → rest < other → IsEndAt most place other → child_at children (end_byte address (place - 1) other) ≡ None
+    pub is : child_at children (last_network_byte address (place - 1) rest) ≡ Some child
+    pub last : (other : ℕ) → rest < other → IsEndAt most place other → child_at children (last_network_byte address (place - 1) other) ≡ None
 
   -- and this one that of the shortest
   pub record IsFirstEnd (child : H) : Type 0 where
     pub rest : ℕ
     pub end : IsEndAt most place rest
-    pub is : child_at children (end_byte address (place - 1) rest) ≡ Some child
-    pub first : (other : ℕ) → other < rest → IsEndAt most place other → child_at children (end_byte address (place - 1) other) ≡ None
+    pub is : child_at children (last_network_byte address (place - 1) rest) ≡ Some child
+    pub first : (other : ℕ) → other < rest → IsEndAt most place other → child_at children (last_network_byte address (place - 1) other) ≡ None
 
 module _ {V : Type 0} {P : ℕ} where
   -- a tree of keys of networks stands in an arena at a pointer, under this path

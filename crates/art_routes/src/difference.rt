@@ -4,7 +4,7 @@ ghost use Rattle.std.specs.Iterator.{YieldsFirstBy, item_count};
 ghost use Rattle.art_routes.specs.Changes.{AreOneIfEqual, ChangesAreInOrder, change_between, change_now, change_to, with_changes};
 ghost use Rattle.art_routes.specs.Differences.{differences};
 ghost use Rattle.art_routes.specs.Networks.{Block, network_order};
-ghost use Rattle.art_routes.specs.Tables.{route_now, value_of};
+ghost use Rattle.art_routes.specs.Tables.{route_now, route_value};
 
 use crate::leaves::{RouteArena, RouteLeaf};
 use crate::network::Network;
@@ -169,7 +169,7 @@ impl<V: PartialEq> RouteTable<V> {
     pub fn difference<'a>(&'a self, new: &'a RouteTable<V>) -> Differences<'a, V>
         ensures order { ChangesAreInOrder result }
         ensures each { (network : Block) → change_to network result
-            ≡ change_between V.eq network (value_of self.now network) (value_of new.now network) }
+            ≡ change_between V.eq network (route_value self.now network) (route_value new.now network) }
         ensures applied { AreOneIfEqual V.eq → with_changes self.now result ≡ new.now }
     {
         self.routes_ascend();

@@ -13,9 +13,9 @@ pub enum NetworkFault {
 
 impl fmt::Display for NetworkFault {
     ghost use Rattle.std.specs.Prelude.{Some};
-    ghost use Rattle.art_routes.specs.Texts.{fault_text};
+    ghost use Rattle.art_routes.specs.Texts.{network_fault_text};
 
-    ghost output = { λ fault. Some (fault_text fault) };
+    ghost output = { λ fault. Some (network_fault_text fault) };
 
     fn fmt<W: fmt::Write>(&self, f: &mut fmt::Formatter<W>) -> fmt::Result {
         match self {

@@ -3,7 +3,7 @@ ghost use Rattle.std.specs.Prelude.{◌≡◌, ◌⊎◌, ◌↔◌, ◌≤◌, 
 ghost use Rattle.std.specs.Iterator.{YieldsFirst, item_count};
 ghost use Rattle.std.specs.declared.cmp.Ordering.TheVariants.{Less};
 ghost use Rattle.art_routes.specs.FreeNetworks.{BeginsBehind, IsFree, overlaps};
-ghost use Rattle.art_routes.specs.FreeWalks.{IsBehind, IsFirst, IsNext, Overlapping};
+ghost use Rattle.art_routes.specs.FreeWalks.{IsBehind, IsFirstInside, IsNextInside, Overlapping};
 ghost use Rattle.art_routes.specs.Networks.{Block, IsNetwork, covers, network_order};
 
 use crate::address::Address;
@@ -43,7 +43,7 @@ pub type Free<'a, V> = FreeOver<&'a RouteTable<V>, V>;
 // The first network of so many bits inside a network, if there is one.
 fn first_inside(network: &Network, length: u8) -> Option<Network>
     ensures network { IsNetwork network.now }
-    ensures first { IsFirst network.now length result }
+    ensures first { IsFirstInside network.now length result }
 {
     let (address, shortest) = parts(network);
     if length < shortest {
@@ -80,7 +80,7 @@ fn next_inside(network: &Network, length: u8, after: &Network) -> Option<Network
     requires inside { covers network.now after.now ≡ true }
     ensures network { IsNetwork network.now }
     ensures after { IsNetwork after.now }
-    ensures next { IsNext network.now length after.now result }
+    ensures next { IsNextInside network.now length after.now result }
 {
     let _is = parts(after);
     let (address, shortest) = parts(network);

@@ -1,11 +1,11 @@
 //! A table that is read with a number of node visits that is counted.
-ghost use Rattle.std.specs.Prelude.{◌≡◌, ◌⊎◌, ◌+◌, ◌^◌, ◌<◌, ◌≤◌, All, MatchOption};
+ghost use Rattle.std.specs.Prelude.{All, MatchOption, ◌+◌, ◌<◌, ◌^◌, ◌≡◌, ◌≤◌, ◌⊎◌};
 ghost use Rattle.std.specs.Option.{option_copied};
 ghost use Rattle.art_tree.specs.Entries.{entries_of};
 ghost use Rattle.art_routes.specs.Keys.{key_text};
 ghost use Rattle.art_routes.specs.Networks.{IsNetwork, address_of};
 ghost use Rattle.art_routes.specs.Readings.{most_visits};
-ghost use Rattle.art_routes.specs.Tables.{AreInOrder, IsLongest, IsLongestOver, IsParent, IsShortest, NoneAround, NoneContains, NoneCovers, route_now, value_of};
+ghost use Rattle.art_routes.specs.Tables.{AreInOrder, IsLongest, IsLongestOver, IsParent, IsShortest, NoneAround, NoneContains, NoneCovers, route_now, route_value};
 
 use crate::address::{Address, number_of};
 use crate::leaves::RouteTree;
@@ -137,7 +137,7 @@ impl<'a, V> RouteReader<'a, V> {
     /// ```
     pub fn get(&mut self, network: &Network) -> Option<&'a V>
         requires budget { most_visits network.now.length ≤ self.old.budget }
-        ensures value { option_copied result ≡ value_of self.old.routes network.now }
+        ensures value { option_copied result ≡ route_value self.old.routes network.now }
         ensures visits { self.old.budget ≤ self.new.budget + most_visits network.now.length }
         ensures same_routes { self.new.routes ≡ self.old.routes }
     {

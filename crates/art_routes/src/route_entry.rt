@@ -7,9 +7,9 @@ ghost use Rattle.art_nodes.specs.declared.pointers.OpaqueNodePtr.{OpaqueNodePtr 
 ghost use Rattle.art_routes.specs.Keys.{key_text};
 ghost use Rattle.art_routes.specs.Lending.{LendsRoute};
 ghost use Rattle.art_routes.specs.Networks.{Block};
-ghost use Rattle.art_routes.specs.RouteEntries.{LendsPutRoute, entry_network, entry_table, is_occupied};
+ghost use Rattle.art_routes.specs.RouteEntries.{LendsPutRoute, entry_network, entry_table, is_route_listed};
 ghost use Rattle.art_routes.specs.Shrinking.{NeedsNode};
-ghost use Rattle.art_routes.specs.Tables.{put_route, routes_with_value, value_of, without_route};
+ghost use Rattle.art_routes.specs.Tables.{put_route, route_value, routes_with_value, without_route};
 
 use crate::network::Network;
 use crate::refused_route::RefusedRoute;
@@ -88,10 +88,10 @@ impl<V> RouteTable<V> {
         requires { F.pre make }
         ensures* writes_back { sem 𝓛 (LendsPutRoute V.row self.entry network result) }
         ensures value { IfOk result
-            (λ lent. UnwrapsOrElse (value_of self.old network) (F.post make) lent.now) }
+            (λ lent. UnwrapsOrElse (route_value self.old network) (F.post make) lent.now) }
         ensures route_back { IfErr result
             (λ refused. (refused.network ≡ network) × F.post make refused.value) }
-        ensures no_route { OnErr result (value_of self.old network ≡ None) }
+        ensures no_route { OnErr result (route_value self.old network ≡ None) }
     {
         let _arena = self.tree.arena();
         match self.tree.get_or_insert_with(key_of(&network), make) {
@@ -117,7 +117,7 @@ impl<V> RouteTable<V> {
         ensures same_table { (entry_table result).ghost_name ≡ self.entry.ghost_name }
         ensures same_routes { (entry_table result).now ≡ self.old }
         ensures network { entry_network result ≡ network }
-        ensures occupied { is_occupied result ≡ is_some (value_of self.old network) }
+        ensures occupied { is_route_listed result ≡ is_some (route_value self.old network) }
     {
         if self.get(&network).is_some() {
             return RouteEntry::Occupied(OccupiedRouteOver {
@@ -151,10 +151,10 @@ impl<'a, V: Drop> RouteEntry<'a, V> {
     pub fn or_insert(self, value: V) -> Result<&'a mut V, RefusedRoute<V>>
         ensures* writes_back { sem 𝓛 (LendsPutRoute V.row (entry_table self.entry) (entry_network self.entry) result) }
         ensures value { IfOk result (λ lent. lent.now
-            ≡ unwrap_or (value_of (entry_table self.entry).now (entry_network self.entry)) value) }
+            ≡ unwrap_or (route_value (entry_table self.entry).now (entry_network self.entry)) value) }
         ensures route_back { IfErr result
             (λ refused. (refused.network ≡ entry_network self.entry) × (refused.value ≡ value)) }
-        ensures no_route { OnErr result (value_of (entry_table self.entry).now (entry_network self.entry) ≡ None) }
+        ensures no_route { OnErr result (route_value (entry_table self.entry).now (entry_network self.entry) ≡ None) }
     {
         self.or_insert_with(move || value)
     }
@@ -165,10 +165,10 @@ impl<'a, V: Drop> RouteEntry<'a, V> {
         requires { F.pre make }
         ensures* writes_back { sem 𝓛 (LendsPutRoute V.row (entry_table self.entry) (entry_network self.entry) result) }
         ensures value { IfOk result (λ lent. UnwrapsOrElse
-            (value_of (entry_table self.entry).now (entry_network self.entry)) (F.post make) lent.now) }
+            (route_value (entry_table self.entry).now (entry_network self.entry)) (F.post make) lent.now) }
         ensures route_back { IfErr result
             (λ refused. (refused.network ≡ entry_network self.entry) × F.post make refused.value) }
-        ensures no_route { OnErr result (value_of (entry_table self.entry).now (entry_network self.entry) ≡ None) }
+        ensures no_route { OnErr result (route_value (entry_table self.entry).now (entry_network self.entry) ≡ None) }
     {
         match self {
             RouteEntry::Occupied(route) => {
@@ -193,7 +193,7 @@ impl<'a, V: Drop> OccupiedRoute<'a, V> {
 
     /// The value. Costs as much as [`get`](RouteTable::get) of the table. Takes no memory.
     pub fn get(&self) -> Option<&V>
-        ensures { option_copied result ≡ value_of self.now.table.now self.now.network }
+        ensures { option_copied result ≡ route_value self.now.table.now self.now.network }
     {
         self.table.get(&self.network)
     }
@@ -212,7 +212,7 @@ impl<'a, V: Drop> OccupiedRoute<'a, V> {
     /// assert!(rt; route.insert(60) == Some(10));
     /// ```
     pub fn get_mut(&mut self) -> Option<&mut V>
-        ensures { option_copied_mut result ≡ value_of self.old.table.now self.old.network }
+        ensures { option_copied_mut result ≡ route_value self.old.table.now self.old.network }
     {
         let OccupiedRouteOver { table, network } = self;
         table.get_mut(network)
@@ -223,7 +223,7 @@ impl<'a, V: Drop> OccupiedRoute<'a, V> {
     pub fn insert(&mut self, value: V) -> Option<V>
         ensures same_table { self.new.table.ghost_name ≡ self.old.table.ghost_name }
         ensures same_network { self.new.network ≡ self.old.network }
-        ensures replaced { result ≡ value_of self.old.table.now self.old.network }
+        ensures replaced { result ≡ route_value self.old.table.now self.old.network }
         ensures routes { self.new.table.now ≡ routes_with_value self.old.table.now self.old.network value }
     {
         let held = self.table.get_mut(&self.network)?;
@@ -234,7 +234,7 @@ impl<'a, V: Drop> OccupiedRoute<'a, V> {
     /// caller leaves there. Costs as much as [`get`](RouteTable::get) of the table. Takes no memory.
     pub fn into_mut(self) -> Option<&'a mut V>
         ensures* writes_back { sem 𝓛 (LendsRoute V.row self.entry.table self.entry.network result) }
-        ensures value { option_copied_mut result ≡ value_of self.entry.table.now self.entry.network }
+        ensures value { option_copied_mut result ≡ route_value self.entry.table.now self.entry.network }
     {
         let OccupiedRouteOver { table, network } = self;
         table.get_mut(&network)
@@ -242,9 +242,9 @@ impl<'a, V: Drop> OccupiedRoute<'a, V> {
 
     /// Removes the route, and returns its value. Fails and costs as [`remove`](RouteTable::remove) of the table.
     pub fn remove(self) -> Result<Option<V>, AllocError>
-        ensures removed { IfOk result (λ value. value ≡ value_of self.entry.table.now self.entry.network) }
+        ensures removed { IfOk result (λ value. value ≡ route_value self.entry.table.now self.entry.network) }
         ensures routes { OnOk result (self.exit.0.now ≡ without_route self.entry.table.now self.entry.network) }
-        ensures refused { OnErr result (value_of self.entry.table.now self.entry.network ≢ None) }
+        ensures refused { OnErr result (route_value self.entry.table.now self.entry.network ≢ None) }
         ensures needs_node { OnErr result (NeedsNode (Pointer Block V PREFIX_LEN)
             (map (λ route. key_text route.0) self.entry.table.now) (key_text self.entry.network)) }
         ensures same_routes { OnErr result (self.exit.0.now ≡ self.entry.table.now) }
@@ -267,10 +267,10 @@ impl<'a, V: Drop> VacantRoute<'a, V> {
     pub fn insert(self, value: V) -> Result<&'a mut V, RefusedRoute<V>>
         ensures* writes_back { sem 𝓛 (LendsPutRoute V.row self.entry.table self.entry.network result) }
         ensures value { IfOk result (λ lent. lent.now
-            ≡ unwrap_or (value_of self.entry.table.now self.entry.network) value) }
+            ≡ unwrap_or (route_value self.entry.table.now self.entry.network) value) }
         ensures route_back { IfErr result
             (λ refused. (refused.network ≡ self.entry.network) × (refused.value ≡ value)) }
-        ensures no_route { OnErr result (value_of self.entry.table.now self.entry.network ≡ None) }
+        ensures no_route { OnErr result (route_value self.entry.table.now self.entry.network ≡ None) }
     {
         let VacantRouteOver { table, network } = self;
         table.get_or_insert_with(network, move || value)

@@ -1,6 +1,6 @@
 //! The keys by which a table keeps its routes.
 ghost use Rattle.std.specs.Prelude.{◌≡◌, ◌⊎◌, ◌<◌, ◌≤◌, ℕ, ◌+◌, ◌-◌, ◌*◌, ◌/◌, ◌%◌, ◌^◌, take};
-ghost use Rattle.art_routes.specs.Keys.{end_byte as end_byte_of, key_text, left as moved_left};
+ghost use Rattle.art_routes.specs.Keys.{key_text, last_network_byte, left as moved_left};
 ghost use Rattle.art_routes.specs.Networks.{Block, IsNetwork};
 ghost use Rattle.art_routes.specs.Strides.{kept, stride_at, symbol as symbol_of};
 
@@ -94,7 +94,7 @@ pub(crate) fn end_byte(address: Address, place: usize, rest: u8) -> u8
     requires fits { address.bits < 2 ^ address.width }
     requires place { place ≤ 18 }
     requires rest { rest < 7 }
-    ensures { result ≡ end_byte_of address place rest }
+    ensures { result ≡ last_network_byte address place rest }
 {
     let stride = (left(address) << (7 * place as u32)) >> 121;
     symbol(first_of(stride as u8, rest), rest)

@@ -8,7 +8,7 @@ ghost use Rattle.art_routes.specs.Lending.{LendsRoute};
 ghost use Rattle.art_routes.specs.NearestLeaves.{is_between};
 ghost use Rattle.art_routes.specs.Networks.{Block, IsNetwork, address_of, covers};
 ghost use Rattle.art_routes.specs.Shrinking.{NeedsNode};
-ghost use Rattle.art_routes.specs.Tables.{AreInOrder, at_or_after, behind, children as children_of, covered as covered_routes, covering as covering_routes, IsFirstToNetwork, IsLongest, IsLongestOver, IsParent, IsShortest, NoneAround, NoneContains, NoneCovers, put_route, put_routes, route_now, value_of, without_route};
+ghost use Rattle.art_routes.specs.Tables.{AreInOrder, at_or_after, behind, children as children_of, covered as covered_routes, covering as covering_routes, IsFirstToNetwork, IsLongest, IsLongestOver, IsParent, IsShortest, NoneAround, NoneContains, NoneCovers, put_route, put_routes, route_now, route_value, without_route};
 ghost use Rattle.art_routes.specs.UpTo.{ahead, at_or_before};
 
 use crate::address::{Address, number_of};
@@ -99,11 +99,11 @@ impl<V> RouteTable<V> {
     /// returned, and the routes are unchanged. Costs as much as [`ArtTree::insert`] of a key of 6 bytes for IPv4 and of 20
     /// at most for IPv6.
     pub fn insert(&mut self, network: Network, value: V) -> Result<Option<V>, RefusedRoute<V>>
-        ensures replaced { IfOk result (λ before. before ≡ value_of self.old network) }
+        ensures replaced { IfOk result (λ before. before ≡ route_value self.old network) }
         ensures routes { OnOk result (self.new ≡ put_route self.old network value) }
         ensures route_back { IfErr result
             (λ refused. (refused.network ≡ network) × (refused.value ≡ value)) }
-        ensures no_route { OnErr result (value_of self.old network ≡ None) }
+        ensures no_route { OnErr result (route_value self.old network ≡ None) }
         ensures same_routes { OnErr result (self.new ≡ self.old) }
     {
         let before = match self.tree.insert(key_of(&network), value) {
@@ -121,7 +121,7 @@ impl<V> RouteTable<V> {
     /// The value of the route to this very network, or None where there is none. Costs as much as
     /// [`ArtTree::get`] of a key of 6 bytes for IPv4 and of 20 at most for IPv6. Takes no memory.
     pub fn get(&self, network: &Network) -> Option<&V>
-        ensures { option_copied result ≡ value_of self.now network.now }
+        ensures { option_copied result ≡ route_value self.now network.now }
     {
         let key = key_of(network);
         self.tree.get(key.as_bytes())
@@ -140,7 +140,7 @@ impl<V> RouteTable<V> {
     /// ```
     pub fn get_mut(&mut self, network: &Network) -> Option<&mut V>
         ensures* writes_back { sem 𝓛 (LendsRoute V.row self.entry network.now result) }
-        ensures value { option_copied_mut result ≡ value_of self.old network.now }
+        ensures value { option_copied_mut result ≡ route_value self.old network.now }
     {
         let key = key_of(network);
         match self.tree.get_mut(key.as_bytes()) {
@@ -154,9 +154,9 @@ impl<V> RouteTable<V> {
     /// An allocation may fail only where there is such a route, and its key's leaf is one of 5, 17 or 49 children
     /// of its parent, since a node of a smaller kind takes its place. The routes are then unchanged.
     pub fn remove(&mut self, network: &Network) -> Result<Option<V>, AllocError>
-        ensures removed { IfOk result (λ value. value ≡ value_of self.old network.now) }
+        ensures removed { IfOk result (λ value. value ≡ route_value self.old network.now) }
         ensures routes { OnOk result (self.new ≡ without_route self.old network.now) }
-        ensures refused { OnErr result (value_of self.old network.now ≢ None) }
+        ensures refused { OnErr result (route_value self.old network.now ≢ None) }
         ensures needs_node { OnErr result (NeedsNode (Pointer Block V PREFIX_LEN)
             (map (λ route. key_text route.0) self.old) (key_text network.now)) }
         ensures same_routes { OnErr result (self.new ≡ self.old) }

@@ -8,7 +8,7 @@ use Rattle.std.specs.Option.{IfNone, IfSome, MatchOption}
 use Rattle.std.specs.Ordering.{is_eq, is_gt, is_lt, ordering_reverse}
 use Rattle.std.specs.declared.cmp.Ordering.{Ordering}
 use Rattle.std.specs.declared.cmp.Ordering.TheVariants.{Less, Equal, Greater}
-use Rattle.art_set.specs.KeyLists.{IsLowerBound, IsUpperBound, contains_by}
+use Rattle.art_set.specs.KeyLists.{IsLowerKeyBound, IsUpperKeyBound, contains_by}
 use Rattle.art_set.proofs.OrderedKeys.{Above, rest-above, rest-sorted, found-first}
 
 or-true : (s t : Bool) → t ≡ true → (s || t) ≡ true
@@ -84,7 +84,7 @@ module _ {K : Type 0} (cmp : K → K → Ordering) (total : IsTotalOrder cmp) wh
 -- what an iterator yields of keys that ascend, first and last
 module _ {K A : Type 0} (cmp : K → K → Ordering) (total : IsTotalOrder cmp) (seen : A → K) (list keys rest : List K) (is : list ≡ keys) (sorted : IsStrictlySortedBy cmp keys) where
   pub first-says : (result : Option A) → MatchOption result ((list ≡ []) × (rest ≡ [])) (λ key. list ≡ seen key ∷ rest)
-      → IfSome result (λ key. contains_by (cmp (seen key)) keys ≡ true) × IfSome result (λ key. IsLowerBound cmp keys (seen key))
+      → IfSome result (λ key. contains_by (cmp (seen key)) keys ≡ true) × IfSome result (λ key. IsLowerKeyBound cmp keys (seen key))
       × IfSome result (λ key. All (λ other. is_gt (cmp (seen key) other) ≡ false) keys) × IfNone result (keys ≡ [])
   first-says None none = (tt, tt, tt, sym is ∙ none.0)
   first-says (Some key) first =
@@ -92,7 +92,7 @@ module _ {K A : Type 0} (cmp : K → K → Ordering) (total : IsTotalOrder cmp) 
       (first-there cmp total keys rest (seen key) (sym is ∙ first), none-found-beyond cmp total is_gt (seen key) keys lowest, lowest, tt)
 
   pub last-says : (result : Option A) → MatchOption result ((list ≡ []) × (rest ≡ [])) (λ key. list ≡ rest ++ seen key ∷ [])
-      → IfSome result (λ key. contains_by (cmp (seen key)) keys ≡ true) × IfSome result (λ key. IsUpperBound cmp keys (seen key))
+      → IfSome result (λ key. contains_by (cmp (seen key)) keys ≡ true) × IfSome result (λ key. IsUpperKeyBound cmp keys (seen key))
       × IfSome result (λ key. All (λ other. is_lt (cmp (seen key) other) ≡ false) keys) × IfNone result (keys ≡ [])
   last-says None none = (tt, tt, tt, sym is ∙ none.0)
   last-says (Some key) last =

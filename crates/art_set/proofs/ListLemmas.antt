@@ -14,7 +14,7 @@ use Rattle.std.specs.Set.{remove_key}
 use Rattle.std.specs.declared.cmp.Ordering.{Ordering}
 use Rattle.std.specs.declared.cmp.Ordering.TheVariants.{Less, Equal, Greater}
 use Rattle.art_map.specs.Ranges.{IsPartOf}
-use Rattle.art_set.specs.KeyLists.{contains_by, get_by}
+use Rattle.art_set.specs.KeyLists.{contains_by, find_by}
 
 module _ {K V : Type 0} (cmp : K → K → Ordering) (key : K) (value : V) where
   -- the keys with one inserted
@@ -76,11 +76,11 @@ some-found {K} test (key ∷ keys) = by_test (test key) (some-found test keys)
     by_test false later = later
 
 -- the key that is found compares `Equal`
-pub found-equal : {K : Type 0} (compare : K → Ordering) (keys : List K) (found : K) → Some found ≡ get_by compare keys → compare found ≡ Equal
+pub found-equal : {K : Type 0} (compare : K → Ordering) (keys : List K) (found : K) → Some found ≡ find_by compare keys → compare found ≡ Equal
 found-equal compare [] found is = absurd (cc)
 found-equal compare (key ∷ keys) found is = by_order (compare key) refl is (found-equal compare keys found)
   where
-    by_order : (o : Ordering) → compare key ≡ o → Some found ≡ cond (is_eq o) (Some key) (get_by compare keys) → (Some found ≡ get_by compare keys → compare found ≡ Equal) → compare found ≡ Equal
+    by_order : (o : Ordering) → compare key ≡ o → Some found ≡ cond (is_eq o) (Some key) (find_by compare keys) → (Some found ≡ find_by compare keys → compare found ≡ Equal) → compare found ≡ Equal
     by_order Less at is later = later is
     by_order Equal at is later = ap compare (same_Some found key is) ∙ at
     by_order Greater at is later = later is
@@ -98,8 +98,8 @@ module _ {K V : Type 0} (entries : List (K × V)) (keys : List K) (is : keys_of 
       → added ≡ not (contains_by compare keys)
   new-key compare old added is found = turned (is_some old) added is ∙ ap not (ap is_some found ∙ has-key compare)
 
-  pub gets-key : (compare : K → Ordering) → lookup_key (is_at compare) entries ≡ get_by compare keys
-  gets-key compare = key-found (is_at compare) entries ∙ ap (get_by compare) is
+  pub gets-key : (compare : K → Ordering) → lookup_key (is_at compare) entries ≡ find_by compare keys
+  gets-key compare = key-found (is_at compare) entries ∙ ap (find_by compare) is
 
   pub removes-key : (compare : K → Ordering) (new : List (K × V)) → new ≡ remove_entry (is_at compare) entries → keys_of new ≡ remove_key (is_at compare) keys
   removes-key compare new so = ap keys_of so ∙ keys-removed (is_at compare) entries ∙ ap (remove_key (is_at compare)) is

@@ -16,8 +16,8 @@ module _ {K : Type 0} where
   contains_by compare keys = list_any (is_at compare) keys
 
   -- the key to which a query compares `Equal`
-  abbrev pub get_by : (K → Ordering) → List K → Option K
-  get_by compare keys = find (is_at compare) keys
+  abbrev pub find_by : (K → Ordering) → List K → Option K
+  find_by compare keys = find (is_at compare) keys
 
   module _ (cmp : K → K → Ordering) where
     -- the keys, with each of the others inserted in turn: of equal keys the first stays
@@ -45,12 +45,12 @@ module _ {K : Type 0} where
     keys_between start end keys = filter (range_contains cmp start end) keys
 
     -- no key that is there is below this one
-    abbrev pub IsLowerBound : List K → K → Type 0
-    IsLowerBound keys key = (other : K) → IsTrue (contains_by (cmp other) keys) → is_gt (cmp key other) ≡ false
+    abbrev pub IsLowerKeyBound : List K → K → Type 0
+    IsLowerKeyBound keys key = (other : K) → IsTrue (contains_by (cmp other) keys) → is_gt (cmp key other) ≡ false
 
     -- no key that is there is above this one
-    abbrev pub IsUpperBound : List K → K → Type 0
-    IsUpperBound keys key = (other : K) → IsTrue (contains_by (cmp other) keys) → is_lt (cmp key other) ≡ false
+    abbrev pub IsUpperKeyBound : List K → K → Type 0
+    IsUpperKeyBound keys key = (other : K) → IsTrue (contains_by (cmp other) keys) → is_lt (cmp key other) ≡ false
 
 -- the keys within two bounds of queries, of which this says how they compare to keys
 abbrev pub keys_within : {Q K : Type 0} → (Q → K → Ordering) → Bound Q → Bound Q → List K → List K

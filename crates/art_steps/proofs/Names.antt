@@ -37,7 +37,7 @@ pub use Rattle.art_arena.proofs.TreeLaws.{knit-member, texts-begin, texts-some, 
 pub use Rattle.art_arena.specs.Arena.{LeafPtr, NodeArena, held, Nothing, HeldLeaf, HeldInner, room, Changes, held_leaf, Held, SameNodes, SameCapacity, SameRoom, SameOtherRoom, SameOtherCapacity, held_under, held_header}
 pub use Rattle.art_arena.specs.Ends.{IsAtEnd, end_pair, put_at}
 pub use Rattle.art_arena.specs.InnerRef.{inner_shown}
-pub use Rattle.art_arena.specs.Links.{HoldsLeaf, leaf_at, Spells, AreDistinct, text_at, IsKnit, IsUnlinked, SameButLinks, SpellsAfter, next_at}
+pub use Rattle.art_arena.specs.Links.{HoldsLeaf, leaf_at, IsLinkedList, AreDistinct, text_at, IsKnit, IsUnlinked, SameButLinks, IsLinkedAfter, next_at}
 pub use Rattle.art_arena.specs.Reader.{shown, shown_kind}
 pub use Rattle.art_arena.specs.Standing.{AllStandIn, StandsIn, TreeAt, IsTreeIn, NodeStands, leaf_text}
 pub use Rattle.art_arena.specs.Trees.{Tree, Leaf, Branches, leaves, Inner, Branch, branch_roots, NoBranch, texts, IsSound, branch_leaves, places, root_of, AreSound, branch_places, IsWellFormed, branch_texts}
@@ -48,9 +48,9 @@ pub use Rattle.art_steps.specs.Art.{IsAlone, IsArt}
 pub use Rattle.art_steps.specs.Contexts.{join, plug, path_to, Context, leaves_after, leaves_before, Under, Whole, KeepsAt, IsExchanged, parent, Adopts}
 pub use Rattle.art_steps.specs.Cuts.{HasOneLess, HasRoomToShrink}
 pub use Rattle.art_steps.specs.Dictionary.{entry_at, HasEntry, SameEntries, IsEmpty, IsProperPrefixOf, Clashes, entry_among}
-pub use Rattle.art_steps.specs.Edits.{LiesBeside, StaysAt, HasGap, HoldsEntry, IsBeside, two_children, HasRoomToGrow, TellsFull, HasOneMore, IsMoved}
+pub use Rattle.art_steps.specs.Edits.{IsOnSide, StaysAt, HasGap, HoldsEntry, IsBeside, two_children, HasRoomToGrow, WhetherFull, HasOneMore, IsMoved}
 pub use Rattle.art_steps.specs.Ends.{IsWithin}
-pub use Rattle.art_steps.specs.Hanging.{CanHang, IsHung, StandsBeside, HasPlaceAt, pairs_on, branches_on, IsChildBeside}
+pub use Rattle.art_steps.specs.ChildPlaces.{HasChildUnder, IsChildOrRoot, IsLeafBeside, HasGapUnder, pairs_on, branches_on, IsChildBeside}
 pub use Rattle.art_steps.specs.Insertion.{IsEntered}
 pub use Rattle.art_steps.specs.Loading.{HasSmallestKinds, HaveSmallestKinds, HoldEntries, leaf_pointers, IsLoaded, Adds}
 pub use Rattle.art_links.specs.Nodes.{node_of, IsPlaced, IsReplaced}
@@ -61,7 +61,7 @@ pub use Rattle.art_steps.specs.Refusals.{texts_of, text_of_entry, HaveNoFault, f
 pub use Rattle.art_steps.specs.Reserving.{LacksRoomForChild, LacksRoomForFork, LacksRoomToGrow, LacksRoomToShrink}
 pub use Rattle.art_steps.specs.Room.{GrowsOnlyWhere}
 pub use Rattle.art_search.specs.Search.{leaf_pointer, scan}
-pub use Rattle.art_steps.specs.Sides.{AreOn, IsNextTo, comes_before, is_before, is_last}
+pub use Rattle.art_steps.specs.Sides.{AreOn, IsBesideKey, comes_before, is_before, is_last}
 pub use Rattle.art_steps.specs.declared.steps.Open.{Open}
 pub use Rattle.art_steps.specs.declared.steps.Step.{Step}
 pub use Rattle.art_steps.specs.declared.place.Mismatch.{Mismatch}

@@ -8,5 +8,5 @@ pub mod NodeKinds
 pub mod ParentLemmas
 pub mod PrefixLemmas
 pub mod RoomLemmas
-pub mod SpelledLists
+pub mod KeptLists
 pub mod TextLists

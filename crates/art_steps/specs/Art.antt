@@ -3,7 +3,7 @@ use Rattle.std.specs.Prelude.{◌≡◌, ◌≢◌, ℕ, ◌<◌, ◌^◌, List,
 use Rattle.art_nodes.specs.Pointers.{opaque_key}
 use Rattle.art_nodes.specs.declared.pointers.OpaqueNodePtr.{OpaqueNodePtr}
 use Rattle.art_arena.specs.Arena.{NodeArena, Nothing, held}
-use Rattle.art_arena.specs.Links.{Spells}
+use Rattle.art_arena.specs.Links.{IsLinkedList}
 use Rattle.art_arena.specs.Standing.{IsTreeIn}
 use Rattle.art_arena.specs.Trees.{Tree, places, texts}
 use Rattle.art_steps.specs.Loading.{HasSmallestKinds, leaf_pointers}
@@ -20,7 +20,7 @@ module _ {K V : Type 0} {P : ℕ} (text : K → List ℕ) (arena : NodeArena K V
     pub is_tree : IsTreeIn text arena root tree
     pub smallest_kinds : HasSmallestKinds tree
     pub short : All (λ x. length x < 2 ^ 32) (texts tree)
-    pub spelled : Spells arena (map opaque_key (leaf_pointers tree))
+    pub is_linked : IsLinkedList arena (map opaque_key (leaf_pointers tree))
     pub no_others : (pointer : OpaqueNodePtr K V P) → held arena pointer ≢ Nothing → Contains (places tree) pointer
 
   -- with no root the arena holds nothing, and with a root such a tree

@@ -9,8 +9,8 @@ use Rattle.art_links.specs.Nodes.{IsReplaced}
 
 module _ {K V : Type 0} {P : ℕ} where
   -- this says whether the inner node at the pointer has the fewest children of its kind
-  abbrev pub TellsFewest : NodeArena K V P → OpaqueNodePtr K V P → Bool → Type 0
-  TellsFewest arena pointer fewest =
+  abbrev pub WhetherFewest : NodeArena K V P → OpaqueNodePtr K V P → Bool → Type 0
+  WhetherFewest arena pointer fewest =
       (node : Inner (OpaqueNodePtr K V P)) → held arena pointer ≡ HeldInner node →
       IsTrue fewest ↔ (length node.children ≡ least_children (node_kind pointer))
 

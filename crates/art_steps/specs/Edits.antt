@@ -10,7 +10,7 @@ use Rattle.art_nodes.specs.Pointers.{node_kind}
 use Rattle.art_nodes.specs.declared.pointers.OpaqueNodePtr.{OpaqueNodePtr}
 use Rattle.art_nodes.specs.declared.leaf_node.LeafNode.{LeafNode}
 use Rattle.art_arena.specs.Arena.{NodeArena, HeldInner, HeldLeaf, Nothing, held, room, Changes}
-use Rattle.art_arena.specs.Links.{Spells}
+use Rattle.art_arena.specs.Links.{IsLinkedList}
 use Rattle.art_steps.specs.Contexts.{KeepsAt}
 use Rattle.art_links.specs.Nodes.{IsReplaced}
 use Rattle.art_arena.specs.Ends.{put_at}
@@ -24,9 +24,9 @@ IsBeside Last left right member = (others : List _) × (left ≡ put_at Last mem
 
 -- a new text is on the right side of another: less than the first one right of the gap, or greater
 -- than the last one left of it
-abbrev pub LiesBeside : End → List ℕ → List ℕ → Type 0
-LiesBeside First text other = text_order text other ≡ Less
-LiesBeside Last text other = text_order other text ≡ Less
+abbrev pub IsOnSide : End → List ℕ → List ℕ → Type 0
+IsOnSide First text other = text_order text other ≡ Less
+IsOnSide Last text other = text_order other text ≡ Less
 
 -- two children by ascending byte
 abbrev pub two_children : {H : Type 0} → ℕ → H → ℕ → H → ChildMap H
@@ -34,11 +34,11 @@ two_children byte child other node =
     if nat_lt byte other then (byte, child) ∷ (other, node) ∷ [] else (other, node) ∷ (byte, child) ∷ []
 
 module _ {K V : Type 0} {P : ℕ} where
-  -- the links spell a list with a gap beside this leaf
+  -- a linked list has a gap beside this leaf
   pub record HasGap (arena : NodeArena K V P) (end : End) (sibling : ℕ) : Type 0 where
     pub left : List ℕ
     pub right : List ℕ
-    pub spelled : Spells arena (left ++ right)
+    pub is_linked : IsLinkedList arena (left ++ right)
     pub beside : IsBeside end left right sibling
 
   -- the pointer holds what it held, but for the links of a leaf
@@ -54,8 +54,8 @@ module _ {K V : Type 0} {P : ℕ} where
     pub value : leaf_value leaf ≡ v
 
   -- this says whether the inner node at the pointer has as many children as its kind holds
-  abbrev pub TellsFull : NodeArena K V P → OpaqueNodePtr K V P → Bool → Type 0
-  TellsFull arena pointer full =
+  abbrev pub WhetherFull : NodeArena K V P → OpaqueNodePtr K V P → Bool → Type 0
+  WhetherFull arena pointer full =
       (node : Inner (OpaqueNodePtr K V P)) → held arena pointer ≡ HeldInner node →
       (IsTrue full ↔ (length node.children ≡ most_children (node_kind pointer))) ×
       (length node.children ≤ most_children (node_kind pointer))

@@ -4,7 +4,7 @@ pub mod Cuts
 pub mod Dictionary
 pub mod Edits
 pub mod Ends
-pub mod Hanging
+pub mod ChildPlaces
 pub mod Insertion
 pub mod Leaves
 pub mod Loading

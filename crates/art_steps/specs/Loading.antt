@@ -7,7 +7,7 @@ use Rattle.art_nodes.specs.Pointers.{node_kind, opaque_key, slab_key}
 use Rattle.art_nodes.specs.declared.pointers.OpaqueNodePtr.{OpaqueNodePtr}
 use Rattle.art_nodes.specs.declared.leaf_node.LeafNode.{LeafNode}
 use Rattle.art_arena.specs.Arena.{LeafPtr, NodeArena, HeldLeaf, Nothing, held}
-use Rattle.art_arena.specs.Links.{Spells}
+use Rattle.art_arena.specs.Links.{IsLinkedList}
 use Rattle.art_arena.specs.Standing.{IsTreeIn}
 use Rattle.art_arena.specs.Trees.{Tree, Leaf, Inner, Branches, NoBranch, Branch, branch_roots, leaves, places}
 use Rattle.art_search.specs.Search.{leaf_pointer}
@@ -43,7 +43,7 @@ module _ {K V : Type 0} {P : ℕ} where
   -- these new leaves hold the entries, are linked in their order, and are all that is new
   pub record AreLinked (old new : NodeArena K V P) (entries : List (K × V)) (leaves : List (LeafPtr K V P)) : Type 0 where
     pub hold : HoldEntries new (map leaf_pointer leaves) entries
-    pub spelled : Spells new (map slab_key leaves)
+    pub is_linked : IsLinkedList new (map slab_key leaves)
     pub adds : Adds old new (map leaf_pointer leaves)
 
   -- the pointers of a tree's leaves from left to right
@@ -56,5 +56,5 @@ module _ {K V : Type 0} {P : ℕ} where
     pub is_tree : IsTreeIn text new root tree
     pub smallest_kinds : HasSmallestKinds tree
     pub hold : HoldEntries new (leaf_pointers tree) entries
-    pub spelled : Spells new (map opaque_key (leaf_pointers tree))
+    pub is_linked : IsLinkedList new (map opaque_key (leaf_pointers tree))
     pub adds : Adds old new (places tree)

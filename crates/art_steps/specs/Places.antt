@@ -69,7 +69,7 @@ module _ {K V : Type 0} {P : ℕ} (tree : Tree (OpaqueNodePtr K V P)) (key : Lis
     pub at_root : root_of part ≡ spot.node
     pub leads : IsPrefixOf (path_to context) key
     pub deep : length (path_to context) ≡ spot.depth
-    pub hangs : above context ≡ spot.parent
+    pub parent_is : above context ≡ spot.parent
 
   -- the key leads past all of the inner node's prefix, and there is no branch under its next byte
   pub record LacksChild (byte : ℕ) : Type 0 where

@@ -23,7 +23,7 @@ module _ {K V : Type 0} {P : ℕ} (text : K → List ℕ) where
     pub node : Inner (OpaqueNodePtr K V P)
     pub parent_held : held arena parent ≡ HeldInner node
     pub byte : ℕ
-    pub hangs : Contains node.children (byte, pointer)
+    pub is_child : Contains node.children (byte, pointer)
     pub count : (length node.children ≡ 5) ⊎ ((length node.children ≡ 17) ⊎ (length node.children ≡ 49))
 
   -- the text has no entry now, and every other text the entry that it had

@@ -31,7 +31,7 @@ module _ {H : Type 0} (side : Side) (key : List ℕ) where
 
   -- this is the first of these leaves after this side of the key, or the last one before it; all before it are
   -- before that side, and all after it are after
-  pub record IsNextTo (leaves : List (H × List ℕ)) (end : End) (pointer : H) : Type 0 where
+  pub record IsBesideKey (leaves : List (H × List ℕ)) (end : End) (pointer : H) : Type 0 where
     pub text : List ℕ
     pub left : List (H × List ℕ)
     pub right : List (H × List ℕ)

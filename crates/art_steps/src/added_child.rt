@@ -8,7 +8,7 @@ ghost use Rattle.art_nodes.specs.Inner.{Inner, header_of, node_with_child};
 ghost use Rattle.art_nodes.specs.Pointers.{node_kind, slab_key};
 ghost use Rattle.art_arena.specs.Arena.{held, HeldInner, Nothing, room, Changes, SameCapacity, SameNodes, SameRoom};
 ghost use Rattle.art_arena.specs.Links.{HoldsLeaf, text_at};
-ghost use Rattle.art_steps.specs.Edits.{HasOneMore, HasRoomToGrow, IsMoved, TellsFull, two_children};
+ghost use Rattle.art_steps.specs.Edits.{HasOneMore, HasRoomToGrow, IsMoved, WhetherFull, two_children};
 ghost use Rattle.art_links.specs.Nodes.{node_of, IsPlaced, node_with_prefix};
 ghost use Rattle.art_search.specs.Search.{leaf_pointer};
 
@@ -27,7 +27,7 @@ pub fn is_full<K, V, const PREFIX_LEN: usize>(
 ) -> bool
     requires held { held arena.now pointer ≢ Nothing }
     requires inner { node_kind pointer ≢ Leaf }
-    ensures { TellsFull arena.now pointer result }
+    ensures { WhetherFull arena.now pointer result }
 {
     num_children(arena, pointer) == *pointer.node_type().capacity_range().end()
 }
@@ -103,7 +103,7 @@ pub fn add_child<K, V, const PREFIX_LEN: usize>(
     requires inner { node_kind pointer ≢ Leaf }
     requires absent { (node : Inner _) → held arena.old pointer ≡ HeldInner node →
         child_at node.children byte ≡ None }
-    requires full { TellsFull arena.old pointer full }
+    requires full { WhetherFull arena.old pointer full }
     requires room { HasRoomToGrow arena.old pointer }
     ensures added { (node : Inner _) → held arena.old pointer ≡ HeldInner node →
         HasOneMore arena.old arena.new pointer node (node_with_child node byte child) result }

@@ -24,7 +24,7 @@ pub use check::{LoadRefusal, refusal_of};
 pub use faults::{InsertFault, InsertRefusal, LoadFault};
 pub use keys::KeyIn;
 pub use link::link_leaf;
-pub use parent::{hang, num_children};
+pub use parent::{num_children, put_child_or_root};
 pub use place::{
     Mismatch, Place, Side, Spot, find_place, leaf_beside, leaf_beside_child, leaves_beside,
     near_end,

@@ -3,8 +3,8 @@ ghost use Rattle.std.specs.Prelude.{◌≡◌, ◌≢◌, ◌<◌, ◌++◌, ◌
 ghost use Rattle.art_header.specs.declared.node_type.NodeType.TheVariants.{Leaf};
 ghost use Rattle.art_nodes.specs.Pointers.{slab_key};
 ghost use Rattle.art_arena.specs.Arena.{held, room, Nothing, SameCapacity, SameOtherRoom};
-ghost use Rattle.art_arena.specs.Links.{Spells, text_at};
-ghost use Rattle.art_steps.specs.Edits.{HasGap, HoldsEntry, IsBeside, LiesBeside, StaysAt};
+ghost use Rattle.art_arena.specs.Links.{IsLinkedList, text_at};
+ghost use Rattle.art_steps.specs.Edits.{HasGap, HoldsEntry, IsBeside, IsOnSide, StaysAt};
 ghost use Rattle.art_search.specs.Search.{leaf_pointer};
 
 use art_arena::{End, LeafPtr, NodeArena};
@@ -23,12 +23,12 @@ pub fn link_leaf<K: AsBytes, V, const PREFIX_LEN: usize>(
 ) -> LeafPtr<K, V, PREFIX_LEN>
     requires room { 0 < room arena.old Leaf }
     requires gap { HasGap arena.old end (slab_key sibling) }
-    requires order { LiesBeside end (K.text key) (text_at K.text arena.old (slab_key sibling)) }
+    requires order { IsOnSide end (K.text key) (text_at K.text arena.old (slab_key sibling)) }
     ensures was_free { held arena.old (leaf_pointer result) ≡ Nothing }
     ensures entry { HoldsEntry arena.new (leaf_pointer result) key value }
-    ensures spelled { (left right : List ℕ) → Spells arena.old (left ++ right) →
+    ensures linked { (left right : List ℕ) → IsLinkedList arena.old (left ++ right) →
         IsBeside end left right (slab_key sibling) →
-        Spells arena.new (left ++ slab_key result ∷ right) }
+        IsLinkedList arena.new (left ++ slab_key result ∷ right) }
     ensures others { (pointer : _) → pointer ≢ leaf_pointer result →
         StaysAt arena.old arena.new pointer }
     ensures other_room { SameOtherRoom arena.old arena.new Leaf }

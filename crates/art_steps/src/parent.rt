@@ -5,7 +5,7 @@ ghost use Rattle.art_header.specs.declared.node_type.NodeType.TheVariants.{Leaf}
 ghost use Rattle.art_nodes.specs.Inner.{Inner};
 ghost use Rattle.art_nodes.specs.Pointers.{node_kind};
 ghost use Rattle.art_arena.specs.Arena.{held, HeldInner, Nothing, room, SameRoom};
-ghost use Rattle.art_steps.specs.Hanging.{CanHang, IsHung};
+ghost use Rattle.art_steps.specs.ChildPlaces.{HasChildUnder, IsChildOrRoot};
 
 use art_arena::NodeArena;
 use art_nodes::OpaqueNodePtr;
@@ -27,15 +27,15 @@ pub fn num_children<K, V, const PREFIX_LEN: usize>(
 
 /// Puts a node where another one was, under its parent or as the root. Returns the root. Writes nothing
 /// where it is the same node.
-pub fn hang<K, V, const PREFIX_LEN: usize>(
+pub fn put_child_or_root<K, V, const PREFIX_LEN: usize>(
     arena: &mut NodeArena<K, V, PREFIX_LEN>,
     root: OpaqueNodePtr<K, V, PREFIX_LEN>,
     parent: Option<(OpaqueNodePtr<K, V, PREFIX_LEN>, u8)>,
     before: OpaqueNodePtr<K, V, PREFIX_LEN>,
     node: OpaqueNodePtr<K, V, PREFIX_LEN>,
 ) -> OpaqueNodePtr<K, V, PREFIX_LEN>
-    requires { CanHang arena.old parent before }
-    ensures hung { IsHung arena.old arena.new parent node root result }
+    requires { HasChildUnder arena.old parent before }
+    ensures placed { IsChildOrRoot arena.old arena.new parent node root result }
     ensures room { SameRoom arena.old arena.new }
 {
     let Some((parent, byte)) = parent else {

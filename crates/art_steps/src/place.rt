@@ -9,10 +9,10 @@ ghost use Rattle.art_arena.specs.Standing.{TreeAt};
 ghost use Rattle.art_arena.specs.Trees.{branch_leaves, leaves, texts};
 ghost use Rattle.art_arena.specs.declared.ends.End.{End};
 ghost use Rattle.art_arena.specs.declared.ends.End.TheVariants.{First, Last};
-ghost use Rattle.art_steps.specs.Hanging.{HasPlaceAt, IsChildBeside, StandsBeside, pairs_on};
+ghost use Rattle.art_steps.specs.ChildPlaces.{HasGapUnder, IsChildBeside, IsLeafBeside, pairs_on};
 ghost use Rattle.art_steps.specs.Places.{Belongs, HasLeafText, IsDescentIn, IsPlaceIn, IsSpotIn, child_after, prefix_of, toward};
 ghost use Rattle.art_search.specs.Search.{HasTree, EachTree, leaf_pointer};
-ghost use Rattle.art_steps.specs.Sides.{IsNextTo, comes_before, is_last};
+ghost use Rattle.art_steps.specs.Sides.{IsBesideKey, comes_before, is_last};
 ghost use Rattle.art_steps.specs.declared.place.Place.TheVariants.{Absent, Differs};
 ghost use Rattle.art_steps.specs.declared.place.Side.{Side};
 
@@ -478,8 +478,8 @@ pub fn leaf_beside_child<K: AsBytes, V, const PREFIX_LEN: usize>(
     pointer: OpaqueNodePtr<K, V, PREFIX_LEN>,
     byte: u8,
 ) -> (LeafPtr<K, V, PREFIX_LEN>, End)
-    requires { HasPlaceAt K.text arena.now pointer byte }
-    ensures beside { (place : HasPlaceAt K.text arena.now pointer byte) → StandsBeside result.1
+    requires { HasGapUnder K.text arena.now pointer byte }
+    ensures beside { (place : HasGapUnder K.text arena.now pointer byte) → IsLeafBeside result.1
         (branch_leaves place.before) (branch_leaves place.after) (leaf_pointer result.0) }
     ensures held { HoldsLeaf arena.now (slab_key result.0) }
 {
@@ -531,7 +531,7 @@ fn leaf_beside_absent<K: AsBytes, V, const PREFIX_LEN: usize>(
         IsPlaceIn K.text arena.now tree key (Absent spot byte) }
     ensures beside { (tree : _) (key : List ℕ) (side : Side) →
         IsPlaceIn K.text arena.now tree key (Absent spot byte) →
-        IsNextTo side key (leaves tree) result.1 (leaf_pointer result.0) }
+        IsBesideKey side key (leaves tree) result.1 (leaf_pointer result.0) }
     ensures held { HoldsLeaf arena.now (slab_key result.0) }
 {
     leaf_beside_child(arena, spot.node, byte)
@@ -547,7 +547,7 @@ fn leaf_beside_mismatch<K: AsBytes, V, const PREFIX_LEN: usize>(
         IsPlaceIn K.text arena.now tree key (Differs spot mismatch) }
     ensures beside { (tree : _) (key : List ℕ) (side : Side) →
         IsPlaceIn K.text arena.now tree key (Differs spot mismatch) →
-        IsNextTo side key (leaves tree) result.1 (leaf_pointer result.0) }
+        IsBesideKey side key (leaves tree) result.1 (leaf_pointer result.0) }
     ensures held { HoldsLeaf arena.now (slab_key result.0) }
 {
     let end = near_end(mismatch);
@@ -562,7 +562,7 @@ fn leaf_beside_place<K: AsBytes, V, const PREFIX_LEN: usize>(
 ) -> (LeafPtr<K, V, PREFIX_LEN>, End)
     requires { (tree : _) × (key : List ℕ) × IsPlaceIn K.text arena.now tree key place }
     ensures beside { (tree : _) (key : List ℕ) → IsPlaceIn K.text arena.now tree key place →
-        IsNextTo side key (leaves tree) result.1 (leaf_pointer result.0) }
+        IsBesideKey side key (leaves tree) result.1 (leaf_pointer result.0) }
     ensures held { HoldsLeaf arena.now (slab_key result.0) }
 {
     match place {
@@ -601,7 +601,7 @@ pub fn leaf_beside<K: AsBytes, V, const PREFIX_LEN: usize>(
 ) -> (LeafPtr<K, V, PREFIX_LEN>, End)
     requires tree { HasTree K.text arena.now root }
     ensures beside { EachTree K.text arena.now root (λ tree.
-        IsNextTo side key.now (leaves tree) result.1 (leaf_pointer result.0)) }
+        IsBesideKey side key.now (leaves tree) result.1 (leaf_pointer result.0)) }
     ensures held { HoldsLeaf arena.now (slab_key result.0) }
 {
     let place = find_place(arena, root, key);
@@ -633,9 +633,9 @@ pub fn leaves_beside<K: AsBytes, V, const PREFIX_LEN: usize>(
 )
     requires tree { HasTree K.text arena.now root }
     ensures start { EachTree K.text arena.now root (λ tree.
-        IsNextTo start_side start.now (leaves tree) result.0.1 (leaf_pointer result.0.0)) }
+        IsBesideKey start_side start.now (leaves tree) result.0.1 (leaf_pointer result.0.0)) }
     ensures end { EachTree K.text arena.now root (λ tree.
-        IsNextTo end_side end.now (leaves tree) result.1.1 (leaf_pointer result.1.0)) }
+        IsBesideKey end_side end.now (leaves tree) result.1.1 (leaf_pointer result.1.0)) }
     ensures start_held { HoldsLeaf arena.now (slab_key result.0.0) }
     ensures end_held { HoldsLeaf arena.now (slab_key result.1.0) }
 {

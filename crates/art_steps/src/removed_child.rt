@@ -7,7 +7,7 @@ ghost use Rattle.art_nodes.specs.ChildMap.{child_at, first_pair, without_child};
 ghost use Rattle.art_nodes.specs.Inner.{Inner, header_of, node_without_child};
 ghost use Rattle.art_nodes.specs.Pointers.{node_kind};
 ghost use Rattle.art_arena.specs.Arena.{held, HeldInner, Nothing, room, Changes, SameCapacity, SameNodes, SameRoom};
-ghost use Rattle.art_steps.specs.Cuts.{HasOneLess, HasRoomToShrink, TellsFewest};
+ghost use Rattle.art_steps.specs.Cuts.{HasOneLess, HasRoomToShrink, WhetherFewest};
 ghost use Rattle.art_links.specs.Nodes.{IsReplaced, node_with_prefix};
 ghost use Rattle.art_steps.specs.Reserving.{LacksRoomToShrink};
 ghost use Rattle.art_steps.specs.Room.{GrowsOnlyWhere};
@@ -59,7 +59,7 @@ pub fn reserve_shrink<K, V, const PREFIX_LEN: usize>(
 ) -> Result<(), AllocError>
     requires more { (node : Inner _) → held arena.old pointer ≡ HeldInner node →
         2 < length node.children }
-    requires fewest { TellsFewest arena.old pointer fewest }
+    requires fewest { WhetherFewest arena.old pointer fewest }
     ensures room { OnOk result (HasRoomToShrink arena.new pointer) }
     ensures refused { OnErr result ((node : Inner _) → held arena.old pointer ≡ HeldInner node →
         (2 < length node.children) × (length node.children ≡ least_children (node_kind pointer))) }
@@ -122,7 +122,7 @@ pub fn take_child<K, V, const PREFIX_LEN: usize>(
 ) -> OpaqueNodePtr<K, V, PREFIX_LEN>
     requires held { held arena.old pointer ≢ Nothing }
     requires inner { node_kind pointer ≢ Leaf }
-    requires fewest { TellsFewest arena.old pointer fewest }
+    requires fewest { WhetherFewest arena.old pointer fewest }
     requires there { (node : Inner _) → held arena.old pointer ≡ HeldInner node →
         child_at node.children byte ≢ None }
     requires many { (node : Inner _) → held arena.old pointer ≡ HeldInner node →

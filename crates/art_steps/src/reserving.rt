@@ -3,7 +3,7 @@ ghost use Rattle.std.specs.Prelude.{◌≢◌, ◌<◌, ◌≤◌, OnOk, OnErr};
 ghost use Rattle.art_header.specs.declared.node_type.NodeType.TheVariants.{Leaf, Node4};
 ghost use Rattle.art_nodes.specs.Pointers.{node_kind};
 ghost use Rattle.art_arena.specs.Arena.{room, SameNodes};
-ghost use Rattle.art_steps.specs.Edits.{HasRoomToGrow, TellsFull};
+ghost use Rattle.art_steps.specs.Edits.{HasRoomToGrow, WhetherFull};
 ghost use Rattle.art_steps.specs.Reserving.{LacksRoomForChild, LacksRoomForFork, LacksRoomToGrow};
 ghost use Rattle.art_steps.specs.Room.{GrowsOnlyWhere};
 
@@ -18,7 +18,7 @@ fn reserve_growth<K, V, const PREFIX_LEN: usize>(
     full: bool,
 ) -> Result<(), AllocError>
     requires inner { node_kind pointer ≢ Leaf }
-    requires full { TellsFull arena.old pointer full }
+    requires full { WhetherFull arena.old pointer full }
     ensures room { OnOk result (HasRoomToGrow arena.new pointer) }
     ensures nodes_kept { SameNodes arena.old arena.new }
     ensures leaf_room { room arena.old Leaf ≤ room arena.new Leaf }
@@ -39,7 +39,7 @@ pub fn reserve_for_child<K, V, const PREFIX_LEN: usize>(
     full: bool,
 ) -> Result<(), AllocError>
     requires inner { node_kind pointer ≢ Leaf }
-    requires full { TellsFull arena.old pointer full }
+    requires full { WhetherFull arena.old pointer full }
     ensures leaf_room { OnOk result (0 < room arena.new Leaf) }
     ensures room { OnOk result (HasRoomToGrow arena.new pointer) }
     ensures nodes_kept { SameNodes arena.old arena.new }

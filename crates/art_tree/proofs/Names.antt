@@ -34,11 +34,11 @@ pub use Rattle.art_nodes.specs.declared.pointers.NodePtr.{NodePtr}
 pub use Rattle.art_nodes.specs.declared.pointers.OpaqueNodePtr.{OpaqueNodePtr, OpaqueNodePtr as PointerTo}
 pub use Rattle.art_arena.proofs.Heights.{height, branches_height, lower-child, tree_height}
 pub use Rattle.art_arena.proofs.StandingLaws.{one-inner, leaf_kind, inner-there, at-some, leaf-pointer-is, leaf_place}
-pub use Rattle.art_arena.proofs.TreeLaws.{texts-apart, places-apart, texts-ascend, knit-member, next-member, texts-begin, texts-some, GoesOn, IsLongestCommonPrefix-node, spells-exchanged, stands-exchanged, texts-go-on}
+pub use Rattle.art_arena.proofs.TreeLaws.{texts-apart, places-apart, texts-ascend, knit-member, next-member, texts-begin, texts-some, GoesOn, IsLongestCommonPrefix-node, list-exchanged, stands-exchanged, texts-go-on}
 pub use Rattle.art_arena.specs.Arena.{LeafPtr, NodeArena, held, Nothing, HeldLeaf, HeldInner, room, Changes, held_leaf, Held, SameNodes, SameCapacity, SameRoom, leaf_count, SameOtherRoom, capacity, SameOtherCapacity, held_inner}
 pub use Rattle.art_arena.specs.Ends.{IsAtEnd, end_pair}
 pub use Rattle.art_arena.specs.InnerRef.{inner_shown}
-pub use Rattle.art_arena.specs.Links.{HoldsLeaf, leaf_at, Spells, AreDistinct, text_at, IsKnit, with_value_at, IsUnlinked, SameButLinks, SpellsAfter, next_at, StandsBetween}
+pub use Rattle.art_arena.specs.Links.{HoldsLeaf, leaf_at, IsLinkedList, AreDistinct, text_at, IsKnit, with_value_at, IsUnlinked, SameButLinks, IsLinkedAfter, next_at, StandsBetween}
 pub use Rattle.art_arena.specs.Reader.{shown}
 pub use Rattle.art_arena.specs.Standing.{AllStandIn, StandsIn, TreeAt, IsTreeIn, NodeStands}
 pub use Rattle.art_arena.specs.Trees.{Tree, Leaf, Branches, leaves, Inner, Branch, branch_roots, NoBranch, texts, IsSound, branch_leaves, places, root_of, AreSound, branch_places, IsWellFormed, branch_texts, SameBranches, SameButPointers}
@@ -47,15 +47,15 @@ pub use Rattle.art_arena.specs.declared.ends.End.TheVariants.{First, Last}
 pub use Rattle.art_steps.proofs.Sizes.{leaf-pointer-fits, spot-fits, slice-fits, place-fits, prepared-fits}
 pub use Rattle.art_steps.specs.Art.{IsAlone, IsArt, Art}
 pub use Rattle.art_steps.specs.Contexts.{join, plug, path_to, Context, leaves_after, leaves_before, Under, Whole, KeepsAt, IsExchanged, parent, Adopts}
-pub use Rattle.art_steps.specs.Cuts.{HasOneLess, HasRoomToShrink, TellsFewest}
+pub use Rattle.art_steps.specs.Cuts.{HasOneLess, HasRoomToShrink, WhetherFewest}
 pub use Rattle.art_steps.specs.Dictionary.{entry_at, HasEntry, HasKeys, SameEntries, IsEmpty, IsProperPrefixOf, Clashes, SameOtherEntries, IsEntry, entry_among}
-pub use Rattle.art_tree.specs.Dropping.{IsAtPath, HangsUnder, IsTaken, HasLeafAt, steps_to, IsLeafSpot}
-pub use Rattle.art_steps.specs.Edits.{LiesBeside, StaysAt, HasGap, HoldsEntry, IsBeside, two_children, HasRoomToGrow, TellsFull}
+pub use Rattle.art_tree.specs.Dropping.{IsAtPath, HasParents, IsTaken, HasLeafAt, steps_to, IsLeafSpot}
+pub use Rattle.art_steps.specs.Edits.{IsOnSide, StaysAt, HasGap, HoldsEntry, IsBeside, two_children, HasRoomToGrow, WhetherFull}
 pub use Rattle.art_steps.specs.Ends.{PopsEntry, EndMeets, IsEndEntry}
 pub use Rattle.art_tree.specs.Entering.{IsPlaceOf, IsPresent, InsertsAt, ReplacesEntry, FindsOrInserts}
 pub use Rattle.art_tree.specs.Entries.{entries_of, entries_among, AreEntries, put_entry, without_text}
 pub use Rattle.art_tree.specs.Finding.{IsFound, IsLeafOf, ReachesLeaf, IsEndFound}
-pub use Rattle.art_steps.specs.Hanging.{CanHang, IsHung, StandsBeside, HasPlaceAt}
+pub use Rattle.art_steps.specs.ChildPlaces.{HasChildUnder, IsChildOrRoot, IsLeafBeside, HasGapUnder}
 pub use Rattle.art_steps.specs.Insertion.{IsEntered, InsertsNew, AddsEntry, ClashesIn, FindsEntry, IsRefused, MayEnter}
 pub use Rattle.art_tree.specs.LeafRemoval.{TakesEntry}
 pub use Rattle.art_steps.specs.Loading.{HasSmallestKinds, HaveSmallestKinds, HoldEntries, leaf_pointers, AreLinked, IsLoaded, Adds}

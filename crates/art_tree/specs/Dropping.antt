@@ -7,7 +7,7 @@ use Rattle.art_nodes.specs.Pointers.{opaque_key}
 use Rattle.art_nodes.specs.declared.leaf_node.LeafNode.{LeafNode}
 use Rattle.art_nodes.specs.declared.pointers.OpaqueNodePtr.{OpaqueNodePtr}
 use Rattle.art_arena.specs.Arena.{NodeArena, HeldLeaf, Nothing, held, room}
-use Rattle.art_arena.specs.Links.{Spells}
+use Rattle.art_arena.specs.Links.{IsLinkedList}
 use Rattle.art_arena.specs.Trees.{Tree, Leaf, Inner, Branches, Branch}
 use Rattle.art_steps.specs.Contexts.{Context, Whole, Under, plug, join}
 use Rattle.art_steps.specs.Edits.{StaysAt}
@@ -36,18 +36,18 @@ IsAtPath {K = K} {V = V} {P = P} tree pointer path x =
 
 -- the leaf is the child of its parent under this byte, and the parent that of its parent under this
 -- one, if it is not the root
-pub record HangsUnder {H : Type 0} (tree : Tree H) (pointer parent : H) (byte : ℕ) (higher : Option (H × ℕ)) : Type 0 where
+pub record HasParents {H : Type 0} (tree : Tree H) (pointer parent : H) (byte : ℕ) (higher : Option (H × ℕ)) : Type 0 where
   pub upper : Context H
   pub prefix : List ℕ
   pub before : Branches H
   pub after : Branches H
   pub text : List ℕ
   pub whole : plug upper (Inner parent prefix (join before (Branch byte (Leaf pointer text) after))) ≡ tree
-  pub hangs : above upper ≡ higher
+  pub parent_is : above upper ≡ higher
 
 -- the leaf is at this spot of the tree
 abbrev pub IsLeafSpot : {K V : Type 0} {P : ℕ} → Tree (OpaqueNodePtr K V P) → OpaqueNodePtr K V P → LeafSpot K V P → Type 0
-IsLeafSpot tree pointer spot = HangsUnder tree pointer spot.parent spot.byte spot.above
+IsLeafSpot tree pointer spot = HasParents tree pointer spot.parent spot.byte spot.above
 
 module _ {K V : Type 0} {P : ℕ} where
   -- a leaf that held this entry is gone, from the arena and from each list of leaves; all else stays, and
@@ -55,7 +55,7 @@ module _ {K V : Type 0} {P : ℕ} where
   pub record IsTaken (old new : NodeArena K V P) (leaf : OpaqueNodePtr K V P) (was : K × V) : Type 0 where
     pub entry : (node : LeafNode K V P) → held old leaf ≡ HeldLeaf node → was ≡ (leaf_key node, leaf_value node)
     pub gone : held new leaf ≡ Nothing
-    pub spelled : (left right : List ℕ) → Spells old (left ++ opaque_key leaf ∷ right) → Spells new (left ++ right)
+    pub is_linked : (left right : List ℕ) → IsLinkedList old (left ++ opaque_key leaf ∷ right) → IsLinkedList new (left ++ right)
     pub others : (pointer : OpaqueNodePtr K V P) → pointer ≢ leaf → StaysAt old new pointer
     pub room : (kind : NodeType) → room old kind ≤ room new kind
     pub frees : FreesOne old new kinds.Leaf

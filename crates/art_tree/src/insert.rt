@@ -11,8 +11,9 @@ use art_arena::{LeafPtr, NodeArena, end_leaf};
 use art_bytes::AsBytes;
 use art_nodes::{LeafNode, OpaqueNodePtr};
 use art_steps::{
-    InsertFault, InsertRefusal, Mismatch, Place, Spot, add_child, fork_node, hang, is_full,
-    leaf_beside_child, link_leaf, near_end, reserve_for_child, reserve_for_fork, trim,
+    InsertFault, InsertRefusal, Mismatch, Place, Spot, add_child, fork_node, is_full,
+    leaf_beside_child, link_leaf, near_end, put_child_or_root, reserve_for_child, reserve_for_fork,
+    trim,
 };
 
 /// The root of a tree, and a place in it.
@@ -66,7 +67,10 @@ fn insert_child<K: AsBytes, V, const PREFIX_LEN: usize>(
     let (sibling, end) = leaf_beside_child(arena, spot.node, byte);
     let leaf = link_leaf(arena, key, value, sibling, end);
     let node = add_child(arena, spot.node, byte, leaf.to_opaque(), full);
-    Ok((hang(arena, root, spot.parent, spot.node, node), leaf))
+    Ok((
+        put_child_or_root(arena, root, spot.parent, spot.node, node),
+        leaf,
+    ))
 }
 
 // Makes a new inner node over a new leaf and the node where the key differs. Returns the root and the
@@ -98,7 +102,10 @@ fn insert_fork<K: AsBytes, V, const PREFIX_LEN: usize>(
         sibling,
     );
     let node = fork_node(arena, leaf, spot.node, spot.depth, mismatch);
-    Ok((hang(arena, root, spot.parent, spot.node, node), leaf))
+    Ok((
+        put_child_or_root(arena, root, spot.parent, spot.node, node),
+        leaf,
+    ))
 }
 
 // The result of an insert of new key bytes: the root and the leaf, or the refused entry.

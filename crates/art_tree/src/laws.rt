@@ -8,7 +8,7 @@ ghost use Rattle.art_nodes.specs.Leaf.{leaf_key, leaf_value};
 ghost use Rattle.art_nodes.specs.Pointers.{node_kind};
 ghost use Rattle.art_nodes.specs.declared.pointers.OpaqueNodePtr.{OpaqueNodePtr as Pointer};
 ghost use Rattle.art_arena.specs.Arena.{NodeArena, HeldLeaf, held, leaf_count, SameCapacity, SameNodes};
-ghost use Rattle.art_arena.specs.Links.{AreDistinct, Spells};
+ghost use Rattle.art_arena.specs.Links.{AreDistinct, IsLinkedList};
 ghost use Rattle.art_arena.specs.Standing.{StandsIn};
 ghost use Rattle.art_arena.specs.Trees.{Tree, leaves, places, texts, IsSound, IsWellFormed, SameButPointers};
 ghost use Rattle.art_steps.specs.Art.{IsAlone, IsArt};
@@ -173,7 +173,7 @@ pub fn the_list_of_entries_changes_with_them<K: AsBytes, V, const PREFIX_LEN: us
 {}
 
 /// The leaves of a tree that is alone in its arena have, from left to right, the key bytes of the
-/// list of the entries. They are as many as the arena has leaves. A list that links spell is no
+/// list of the entries. They are as many as the arena has leaves. A linked list is no
 /// longer.
 pub fn entries_are_as_many_as_leaves<K: AsBytes, V, const PREFIX_LEN: usize>()
     ensures texts { (arena : NodeArena K V PREFIX_LEN) (root : _) (tree : _) →
@@ -183,7 +183,7 @@ pub fn entries_are_as_many_as_leaves<K: AsBytes, V, const PREFIX_LEN: usize>()
         IsAlone K.text arena root tree → length (leaves tree) ≡ leaf_count arena }
     ensures entries { (arena : NodeArena K V PREFIX_LEN) (root : _) → IsArt K.text arena root →
         length (entries_of K.text arena) ≡ leaf_count arena }
-    ensures spelled { (arena : NodeArena K V PREFIX_LEN) (keys : List ℕ) → Spells arena keys →
+    ensures linked { (arena : NodeArena K V PREFIX_LEN) (keys : List ℕ) → IsLinkedList arena keys →
         length keys ≤ leaf_count arena }
 {}
 

@@ -4,9 +4,9 @@ ghost use Rattle.art_header.specs.NodeType.{least_children};
 ghost use Rattle.art_nodes.specs.Inner.{Inner};
 ghost use Rattle.art_nodes.specs.Pointers.{slab_key};
 ghost use Rattle.art_arena.specs.Arena.{held, HeldInner};
-ghost use Rattle.art_arena.specs.Links.{Spells};
+ghost use Rattle.art_arena.specs.Links.{IsLinkedList};
 ghost use Rattle.art_steps.specs.Art.{IsAlone};
-ghost use Rattle.art_steps.specs.Cuts.{TellsFewest};
+ghost use Rattle.art_steps.specs.Cuts.{WhetherFewest};
 ghost use Rattle.art_tree.specs.Dropping.{IsAtPath, IsLeafSpot, IsTaken};
 ghost use Rattle.art_tree.specs.Finding.{ReachesLeaf};
 ghost use Rattle.art_steps.specs.Removal.{RemovesEntry, RemovesFreely};
@@ -20,7 +20,9 @@ use art_bytes::AsBytes;
 use art_links::LeafLinks;
 use art_nodes::{LeafNode, NodeType, OpaqueNodePtr};
 use art_search::TreePath;
-use art_steps::{hang, join_prefix, num_children, other_child, reserve_shrink, take_child};
+use art_steps::{
+    join_prefix, num_children, other_child, put_child_or_root, reserve_shrink, take_child,
+};
 use std::alloc::AllocError;
 
 /// The root that is left of a tree, if there is one, and the entry that was removed.
@@ -45,7 +47,7 @@ fn leaf_spot<K, V, const PREFIX_LEN: usize>(
     ensures root { IfNone result (path ≡ Root) }
     ensures spot { IfSome result (λ spot. (tree leaf : _) (text : List ℕ) →
         IsAtPath tree leaf path text →
-        (hangs : IsLeafSpot tree leaf spot) × (hangs.text ≡ text)) }
+        (at_spot : IsLeafSpot tree leaf spot) × (at_spot.text ≡ text)) }
 {
     match path {
         TreePath::Root => None,
@@ -75,7 +77,7 @@ fn take_leaf<K: AsBytes, V, const PREFIX_LEN: usize>(
     arena: &mut NodeArena<K, V, PREFIX_LEN>,
     leaf: LeafPtr<K, V, PREFIX_LEN>,
 ) -> (K, V)
-    requires { (left right : List ℕ) × Spells arena.old (left ++ slab_key leaf ∷ right) }
+    requires { (left right : List ℕ) × IsLinkedList arena.old (left ++ slab_key leaf ∷ right) }
     ensures { IsTaken arena.old arena.new (leaf_pointer leaf) result }
 {
     LeafNode::remove_self(arena, leaf);
@@ -94,15 +96,15 @@ fn remove_from_many<K: AsBytes, V, const PREFIX_LEN: usize>(
         IsLeafSpot tree (leaf_pointer leaf) spot }
     requires many { (node : Inner _) → held arena.old spot.parent ≡ HeldInner node →
         length node.children ≢ 2 }
-    requires fewest { TellsFewest arena.old spot.parent fewest }
+    requires fewest { WhetherFewest arena.old spot.parent fewest }
     ensures { (tree : _) → IsAlone K.text arena.old root tree →
-        (hangs : IsLeafSpot tree (leaf_pointer leaf) spot) →
-        RemovesEntry K.text arena.old arena.new root hangs.text result }
+        (at_spot : IsLeafSpot tree (leaf_pointer leaf) spot) →
+        RemovesEntry K.text arena.old arena.new root at_spot.text result }
 {
     reserve_shrink(arena, spot.parent, fewest)?;
     let entry = take_leaf(arena, leaf);
     let node = take_child(arena, spot.parent, spot.byte, fewest);
-    let root = hang(arena, root, spot.above, spot.parent, node);
+    let root = put_child_or_root(arena, root, spot.above, spot.parent, node);
     Ok((Some(root), entry))
 }
 
@@ -118,14 +120,14 @@ fn remove_from_two<K: AsBytes, V, const PREFIX_LEN: usize>(
     requires two { (node : Inner _) → held arena.old spot.parent ≡ HeldInner node →
         length node.children ≡ 2 }
     ensures { (tree : _) → IsAlone K.text arena.old root tree →
-        (hangs : IsLeafSpot tree (leaf_pointer leaf) spot) →
-        RemovesFreely K.text arena.old arena.new hangs.text result }
+        (at_spot : IsLeafSpot tree (leaf_pointer leaf) spot) →
+        RemovesFreely K.text arena.old arena.new at_spot.text result }
 {
     let entry = take_leaf(arena, leaf);
     let (other_byte, child) = other_child(arena, spot.parent, spot.byte);
     join_prefix(arena, spot.parent, other_byte, child);
     arena.deallocate(spot.parent);
-    let root = hang(arena, root, spot.above, spot.parent, child);
+    let root = put_child_or_root(arena, root, spot.above, spot.parent, child);
     (Some(root), entry)
 }
 

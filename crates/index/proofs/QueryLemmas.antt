@@ -7,7 +7,7 @@ use Rattle.program_lines.proofs.Cuts.{same_cut, cut_has_one}
 use Rattle.index.specs.declared.query.Query.{Query}
 use Rattle.index.specs.declared.query.Query.TheVariants.{Host, Time, Hosts, First, Last, Count, CountHost}
 use Rattle.index.specs.Fields.{IsAddress, IsTime}
-use Rattle.index.specs.Queries.{AreBounds, AskFor, HasBounds, HasNoWord, SayHost}
+use Rattle.index.specs.Queries.{AreBounds, AskIndexFor, HasBounds, HasNoWord, SayHost}
 
 -- what is so anyway, is so of an error
 pub anyway : {X E : Type 0} {Q : Type 0} (result : Result X E) → Q → OnErr result Q
@@ -67,7 +67,7 @@ differ_at : (place : ℕ) (xs ys : List ℕ) → get_or xs place 0 ≢ get_or ys
 differ_at place xs ys differ same = differ (ap (λ text. get_or text place 0) same)
 
 -- a line that begins so is no other query
-pub no_host_query : (line rest : List ℕ) → line ≡ codes "host " ++ rest → ((address : Ipv6Addr) (from to : ℤ) → SayHost rest address from to → ⊥) → (query : Query) → AskFor line query → ⊥
+pub no_host_query : (line rest : List ℕ) → line ≡ codes "host " ++ rest → ((address : Ipv6Addr) (from to : ℤ) → SayHost rest address from to → ⊥) → (query : Query) → AskIndexFor line query → ⊥
 no_host_query line rest begins refused (Host address from to) (text, is, said) =
     let both : codes "host " ++ rest ≡ codes "host " ++ text = sym begins ∙ is in
     let same : rest ≡ text = cc in
@@ -79,7 +79,7 @@ no_host_query line rest begins refused Last is = differ_at 0 (codes "host " ++ r
 no_host_query line rest begins refused Count is = differ_at 0 (codes "host " ++ rest) (codes "count") (omega arith) (sym begins ∙ is)
 no_host_query line rest begins refused (CountHost address from to) (text, is, said) = differ_at 0 (codes "host " ++ rest) (codes "count " ++ text) (omega arith) (sym begins ∙ is)
 
-pub no_time_query : (line rest : List ℕ) → line ≡ codes "time " ++ rest → ((from to : ℤ) → AreBounds rest from to → ⊥) → (query : Query) → AskFor line query → ⊥
+pub no_time_query : (line rest : List ℕ) → line ≡ codes "time " ++ rest → ((from to : ℤ) → AreBounds rest from to → ⊥) → (query : Query) → AskIndexFor line query → ⊥
 no_time_query line rest begins refused (Host address from to) (text, is, said) = differ_at 0 (codes "time " ++ rest) (codes "host " ++ text) (omega arith) (sym begins ∙ is)
 no_time_query line rest begins refused (Time from to) (text, is, said) =
     let both : codes "time " ++ rest ≡ codes "time " ++ text = sym begins ∙ is in
@@ -91,7 +91,7 @@ no_time_query line rest begins refused Last is = differ_at 0 (codes "time " ++ r
 no_time_query line rest begins refused Count is = differ_at 0 (codes "time " ++ rest) (codes "count") (omega arith) (sym begins ∙ is)
 no_time_query line rest begins refused (CountHost address from to) (text, is, said) = differ_at 0 (codes "time " ++ rest) (codes "count " ++ text) (omega arith) (sym begins ∙ is)
 
-pub no_count_query : (line rest : List ℕ) → line ≡ codes "count " ++ rest → ((address : Ipv6Addr) (from to : ℤ) → SayHost rest address from to → ⊥) → (query : Query) → AskFor line query → ⊥
+pub no_count_query : (line rest : List ℕ) → line ≡ codes "count " ++ rest → ((address : Ipv6Addr) (from to : ℤ) → SayHost rest address from to → ⊥) → (query : Query) → AskIndexFor line query → ⊥
 no_count_query line rest begins refused (Host address from to) (text, is, said) = differ_at 0 (codes "count " ++ rest) (codes "host " ++ text) (omega arith) (sym begins ∙ is)
 no_count_query line rest begins refused (Time from to) (text, is, said) = differ_at 0 (codes "count " ++ rest) (codes "time " ++ text) (omega arith) (sym begins ∙ is)
 no_count_query line rest begins refused Hosts is = differ_at 0 (codes "count " ++ rest) (codes "hosts") (omega arith) (sym begins ∙ is)
@@ -104,7 +104,7 @@ no_count_query line rest begins refused (CountHost address from to) (text, is, s
     refused address from to (subst (λ t. SayHost t address from to) (sym same) said)
 
 -- nor is a line that has none of the words
-pub no_query : (line : List ℕ) → HasNoWord line → (query : Query) → AskFor line query → ⊥
+pub no_query : (line : List ℕ) → HasNoWord line → (query : Query) → AskIndexFor line query → ⊥
 no_query line none (Host address from to) (text, is, said) = none.0 text is
 no_query line none (Time from to) (text, is, said) = none.1 text is
 no_query line none Hosts is = none.3 is

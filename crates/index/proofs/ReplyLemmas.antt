@@ -9,15 +9,15 @@ use Rattle.std.proofs.lemmas.Option.{slice_get-map}
 use Rattle.index.specs.declared.query.Query.{Query}
 use Rattle.index.specs.declared.query.Query.TheVariants.{First, Last}
 use Rattle.index.specs.declared.rows.Row.{Row}
-use Rattle.index.specs.Keys.{IsTable, RowKey}
-use Rattle.index.specs.Queries.{SayQuery}
-use Rattle.index.specs.Replies.{HasReply, IsReply, end_line}
-use Rattle.index.specs.Searches.{AppendsReply}
+use Rattle.index.specs.Keys.{IsIndexTable, RowKey}
+use Rattle.index.specs.Queries.{SayIndexQuery}
+use Rattle.index.specs.Replies.{HasIndexReply, IsIndexReply, end_line}
+use Rattle.index.specs.Searches.{AppendsIndexReply}
 use Rattle.index.proofs.EntryLemmas.{values_of}
 
 -- a reply to a query that is known
-pub appended : (rows : List Row) (query this : Query) (old new text : List ℕ) → query ≡ this → IsReply rows this text → new ≡ old ++ text → AppendsReply rows query old new
-appended rows query this old new text is reply pushed = (text, subst (λ q. IsReply rows q text) (sym is) reply, pushed)
+pub appended : (rows : List Row) (query this : Query) (old new text : List ℕ) → query ≡ this → IsIndexReply rows this text → new ≡ old ++ text → AppendsIndexReply rows query old new
+appended rows query this old new text is reply pushed = (text, subst (λ q. IsIndexReply rows q text) (sym is) reply, pushed)
 
 module _ {K : Type 0} (entries : List (K × Row)) where
   abbrev pub row_of : K × Row → Row
@@ -49,17 +49,17 @@ module _ {K : Type 0} (entries : List (K × Row)) where
       both (Some e) = refl
 
   module _ (query : Query) (old new : List ℕ) (o : Option (Bor K × Bor Row)) (pushed : new ≡ old ++ end_line (option_map shown_row o)) where
-    pub reply_first : query ≡ First → option_map shown_entry o ≡ slice_get entries 0 → AppendsReply (values_of entries) query old new
+    pub reply_first : query ≡ First → option_map shown_entry o ≡ slice_get entries 0 → AppendsIndexReply (values_of entries) query old new
     reply_first is first = appended (values_of entries) query First old new (end_line (slice_get (values_of entries) 0)) is refl (pushed ∙ ap (λ e. old ++ end_line e) (row_at o 0 first))
 
-    pub reply_last : query ≡ Last → option_map shown_entry o ≡ slice_get entries (length entries - 1) → AppendsReply (values_of entries) query old new
+    pub reply_last : query ≡ Last → option_map shown_entry o ≡ slice_get entries (length entries - 1) → AppendsIndexReply (values_of entries) query old new
     reply_last is last =
         let place = ap (λ n. slice_get (values_of entries) (n - 1)) (sym (length-map entries row_of)) in
         appended (values_of entries) query Last old new (end_line (slice_get (values_of entries) (length (values_of entries) - 1))) is refl (pushed ∙ ap (λ e. old ++ end_line e) (row_at o (length entries - 1) last ∙ place))
 
 -- a reply to a line, by the file of the rows
-pub reply_said : {E F : Type 0} (has_header : Bool) (entries : List (RowKey × Row)) (given old new : List ℕ) (result : Result (Option F) E) → IfOk result (λ fault. IfNone fault ((query : Query) × SayQuery given query × AppendsReply (values_of entries) query old new))
-    → IfOk result (λ fault. IfNone fault ((file : List ℕ) → IsTable has_header file entries → (shown : List ℕ) × HasReply has_header file given shown × (new ≡ old ++ shown)))
+pub reply_said : {E F : Type 0} (has_header : Bool) (entries : List (RowKey × Row)) (given old new : List ℕ) (result : Result (Option F) E) → IfOk result (λ fault. IfNone fault ((query : Query) × SayIndexQuery given query × AppendsIndexReply (values_of entries) query old new))
+    → IfOk result (λ fault. IfNone fault ((file : List ℕ) → IsIndexTable has_header file entries → (shown : List ℕ) × HasIndexReply has_header file given shown × (new ≡ old ++ shown)))
 reply_said has_header entries given old new (Err e) so = tt
 reply_said has_header entries given old new (Ok (Some fault)) so = tt
 reply_said has_header entries given old new (Ok None) (query, said, (shown, reply, is)) = λ file table. (shown, (table.0, values_of entries, query, table.1, table.2, said, reply), is)

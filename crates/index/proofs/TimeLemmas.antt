@@ -2,7 +2,7 @@
 use Rattle.std.proofs.Common.{inl, inr, ℕ, ◌-◌, ◌^◌, pos, ℤ, neg_ℤ, List, FitsSigned, rules, w64}
 use Rattle.std.specs.declared.net.Ipv6Addr.{Ipv6Addr}
 use Rattle.index.specs.Keys.{HasTime, HasTimes}
-use Rattle.index.specs.Queries.{SayHost, SayQuery}
+use Rattle.index.specs.Queries.{SayHost, SayIndexQuery}
 use Rattle.index.specs.Readings.{SayReading}
 use Rattle.index.specs.declared.query.Query.{Query}
 use Rattle.index.specs.declared.query.Query.TheVariants.{Host, Time, Hosts, First, Last, Count, CountHost}
@@ -22,7 +22,7 @@ host_fits : (text : List ℕ) (address : Ipv6Addr) (from to : ℤ) → SayHost t
 host_fits text address from to (inl alone) = (rw alone.2 (least_fits), rw alone.3 (greatest_fits))
 host_fits text address from to (inr bounded) = (bounded.5.3.2, bounded.5.4.2)
 
-pub query_fits : (line : List ℕ) (query : Query) → SayQuery line query → HasTimes query
+pub query_fits : (line : List ℕ) (query : Query) → SayIndexQuery line query → HasTimes query
 query_fits line (Host address from to) said = host_fits said.1.0 address from to said.1.2
 query_fits line (Time from to) said = (said.1.2.3.2, said.1.2.4.2)
 query_fits line Hosts said = tt

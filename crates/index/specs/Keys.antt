@@ -42,6 +42,6 @@ HasTimes Count = Unit {0}
 HasTimes (CountHost address from to) = FitsSigned w64 from × FitsSigned w64 to
 
 -- the entries are the rows of this table, each under its key
-abbrev pub IsTable : Bool → List ℕ → List (RowKey × Row) → Type 0
-IsTable has_header file entries =
+abbrev pub IsIndexTable : Bool → List ℕ → List (RowKey × Row) → Type 0
+IsIndexTable has_header file entries =
     (table : List Reading) × AreReadings has_header file table × IsIndex table (map (λ entry. entry.1) entries) × AreKeyed entries

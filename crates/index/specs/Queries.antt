@@ -24,18 +24,18 @@ SayHost text address from to =
 
 -- the line asks for this: `host` or `count` with an address, and with or without `from TIME to TIME`; `time` with these;
 -- `hosts`, `first`, `last` or `count`
-abbrev pub AskFor : List ℕ → Query → Type 0
-AskFor line (Host address from to) = (text : List ℕ) × (line ≡ codes "host " ++ text) × SayHost text address from to
-AskFor line (Time from to) = (text : List ℕ) × (line ≡ codes "time " ++ text) × AreBounds text from to
-AskFor line Hosts = line ≡ codes "hosts"
-AskFor line First = line ≡ codes "first"
-AskFor line Last = line ≡ codes "last"
-AskFor line Count = line ≡ codes "count"
-AskFor line (CountHost address from to) = (text : List ℕ) × (line ≡ codes "count " ++ text) × SayHost text address from to
+abbrev pub AskIndexFor : List ℕ → Query → Type 0
+AskIndexFor line (Host address from to) = (text : List ℕ) × (line ≡ codes "host " ++ text) × SayHost text address from to
+AskIndexFor line (Time from to) = (text : List ℕ) × (line ≡ codes "time " ++ text) × AreBounds text from to
+AskIndexFor line Hosts = line ≡ codes "hosts"
+AskIndexFor line First = line ≡ codes "first"
+AskIndexFor line Last = line ≡ codes "last"
+AskIndexFor line Count = line ≡ codes "count"
+AskIndexFor line (CountHost address from to) = (text : List ℕ) × (line ≡ codes "count " ++ text) × SayHost text address from to
 
 -- a line of the input is a query: it asks for something, and has no carriage return at its end
-abbrev pub SayQuery : List ℕ → Query → Type 0
-SayQuery = SayLine AskFor
+abbrev pub SayIndexQuery : List ℕ → Query → Type 0
+SayIndexQuery = SayLine AskIndexFor
 
 -- the text is no `from WORD to WORD`, or one of the words is no time
 abbrev pub IsBoundsFault : List ℕ → Fault → Type 0

@@ -15,7 +15,7 @@ use Rattle.index.specs.declared.query.Query.TheVariants.{Host, Time, Hosts, Firs
 use Rattle.index.specs.declared.reading.Reading.{Reading}
 use Rattle.index.specs.declared.rows.Row.{Row}
 use Rattle.index.specs.Readings.{AreRowLines, SayReading}
-use Rattle.index.specs.Queries.{IsAskFault, SayQuery}
+use Rattle.index.specs.Queries.{IsAskFault, SayIndexQuery}
 use Rattle.index.specs.Rows.{AreHosts, IsIndex, address_order}
 
 -- whether a row is from the one time to the other
@@ -46,25 +46,25 @@ abbrev pub host_line : Ipv6Addr → List ℕ
 host_line address = line (host_text address)
 
 -- a query prints this, where these are the rows in order
-abbrev pub IsReply : List Row → Query → List ℕ → Type 0
-IsReply rows (Host address from to) text = text ≡ flat_map row_line (filter (is_within address from to) rows)
-IsReply rows (Time from to) text = text ≡ flat_map row_line (filter (is_timed from to) rows)
-IsReply rows Hosts text = (hosts : List Ipv6Addr) × AreHosts rows hosts × (text ≡ flat_map host_line hosts)
-IsReply rows First text = text ≡ end_line (slice_get rows 0)
-IsReply rows Last text = text ≡ end_line (slice_get rows (length rows - 1))
-IsReply rows Count text = text ≡ line (decimal (length rows))
-IsReply rows (CountHost address from to) text = text ≡ line (decimal (length (filter (is_within address from to) rows)))
+abbrev pub IsIndexReply : List Row → Query → List ℕ → Type 0
+IsIndexReply rows (Host address from to) text = text ≡ flat_map row_line (filter (is_within address from to) rows)
+IsIndexReply rows (Time from to) text = text ≡ flat_map row_line (filter (is_timed from to) rows)
+IsIndexReply rows Hosts text = (hosts : List Ipv6Addr) × AreHosts rows hosts × (text ≡ flat_map host_line hosts)
+IsIndexReply rows First text = text ≡ end_line (slice_get rows 0)
+IsIndexReply rows Last text = text ≡ end_line (slice_get rows (length rows - 1))
+IsIndexReply rows Count text = text ≡ line (decimal (length rows))
+IsIndexReply rows (CountHost address from to) text = text ≡ line (decimal (length (filter (is_within address from to) rows)))
 
 -- each row of the file is a reading
 abbrev pub AreReadings : Bool → List ℕ → List Reading → Type 0
 AreReadings has_header file table = (lines : List (List ℕ)) × AreRowLines has_header file lines × SayAll SayReading lines table
 
 -- a line of the input is a query, and this is the reply
-abbrev pub HasReply : Bool → List ℕ → List ℕ → List ℕ → Type 0
-HasReply has_header file line text =
+abbrev pub HasIndexReply : Bool → List ℕ → List ℕ → List ℕ → Type 0
+HasIndexReply has_header file line text =
     (table : List Reading) × (rows : List Row) × (query : Query) × AreReadings has_header file table × IsIndex table rows
-    × SayQuery line query × IsReply rows query text
+    × SayIndexQuery line query × IsIndexReply rows query text
 
 -- a line of the input is no query, and this is its fault
-abbrev pub HasFault : List ℕ → LineFault Fault → Type 0
-HasFault line fault = ((query : Query) → ¬ SayQuery line query) × IsLineFault IsAskFault line fault
+abbrev pub HasIndexFault : List ℕ → LineFault Fault → Type 0
+HasIndexFault line fault = ((query : Query) → ¬ SayIndexQuery line query) × IsLineFault IsAskFault line fault

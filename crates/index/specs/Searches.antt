@@ -4,7 +4,7 @@ use Rattle.std.specs.Ordering.{is_le, is_lt}
 use Rattle.std.specs.declared.net.Ipv6Addr.{Ipv6Addr}
 use Rattle.index.specs.declared.query.Query.{Query}
 use Rattle.index.specs.declared.rows.Row.{Row}
-use Rattle.index.specs.Replies.{IsReply}
+use Rattle.index.specs.Replies.{IsIndexReply}
 use Rattle.index.specs.Rows.{address_order, addresses_of}
 
 -- whether an address is above the last one, if there is a last one
@@ -20,5 +20,5 @@ IsNextHost rows last (Some next) =
     × ((address : Ipv6Addr) → Contains (addresses_of rows) address → is_after last address ≡ true → is_le (address_order next address) ≡ true)
 
 -- what a query prints was appended to an output
-abbrev pub AppendsReply : List Row → Query → List ℕ → List ℕ → Type 0
-AppendsReply rows query old new = (text : List ℕ) × IsReply rows query text × (new ≡ old ++ text)
+abbrev pub AppendsIndexReply : List Row → Query → List ℕ → List ℕ → Type 0
+AppendsIndexReply rows query old new = (text : List ℕ) × IsIndexReply rows query text × (new ≡ old ++ text)

@@ -1,7 +1,7 @@
 //! Queries, and the lines that say them.
 ghost use Rattle.std.specs.Prelude.{◌≡◌, ◌≢◌, ◌++◌, ℕ, ℤ, List, IfErr, IfOk, MatchOption, OnErr, codes};
 ghost use Rattle.std.specs.declared.net.Ipv6Addr.{Ipv6Addr};
-ghost use Rattle.index.specs.Queries.{AreBounds, AskFor, IsAskFault, IsBoundsFault, IsHostFault, SayHost};
+ghost use Rattle.index.specs.Queries.{AreBounds, AskIndexFor, IsAskFault, IsBoundsFault, IsHostFault, SayHost};
 ghost use Rattle.index.specs.declared.query.Query.{Query};
 
 use crate::fault::Fault;
@@ -30,9 +30,9 @@ pub enum Query {
 }
 
 impl<'a> FromLine<'a, Fault> for Query {
-    ghost use Rattle.index.specs.Queries.{AskFor, IsAskFault};
+    ghost use Rattle.index.specs.Queries.{AskIndexFor, IsAskFault};
 
-    ghost says = { AskFor };
+    ghost says = { AskIndexFor };
 
     ghost has_fault = { IsAskFault };
 
@@ -43,8 +43,8 @@ impl<'a> FromLine<'a, Fault> for Query {
 
 // What a line asks for.
 fn query_of(line: &[u8]) -> Result<Query, Fault>
-    ensures said { IfOk result (AskFor line.now) }
-    ensures refused { OnErr result ((query : Query) → ¬ AskFor line.now query) }
+    ensures said { IfOk result (AskIndexFor line.now) }
+    ensures refused { OnErr result ((query : Query) → ¬ AskIndexFor line.now query) }
     ensures fault { IfErr result (IsAskFault line.now) }
 {
     if let Some(rest) = after(line, b"host ") {
@@ -67,8 +67,8 @@ fn word_of(line: &[u8]) -> Result<Query, Fault>
     requires host { (text : List ℕ) → line.now ≢ codes "host " ++ text }
     requires time { (text : List ℕ) → line.now ≢ codes "time " ++ text }
     requires count { (text : List ℕ) → line.now ≢ codes "count " ++ text }
-    ensures said { IfOk result (AskFor line.now) }
-    ensures refused { OnErr result ((query : Query) → ¬ AskFor line.now query) }
+    ensures said { IfOk result (AskIndexFor line.now) }
+    ensures refused { OnErr result ((query : Query) → ¬ AskIndexFor line.now query) }
     ensures fault { IfErr result (IsAskFault line.now) }
 {
     if line == b"hosts".as_slice() {

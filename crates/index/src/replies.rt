@@ -3,13 +3,13 @@ ghost use Rattle.std.specs.Prelude.{◌≡◌, ◌++◌, List, IfErr, IfNone, If
 ghost use Rattle.std.specs.List.{flat_map};
 ghost use Rattle.std.specs.Option.{option_map};
 ghost use Rattle.std.specs.declared.net.Ipv6Addr.{Ipv6Addr};
-ghost use Rattle.index.specs.Keys.{AreKeyed, HasTimes, IsTable};
+ghost use Rattle.index.specs.Keys.{AreKeyed, HasTimes, IsIndexTable};
 ghost use Rattle.program_lines.specs.Failures.{IfBadLine};
-ghost use Rattle.index.specs.Queries.{SayQuery};
+ghost use Rattle.index.specs.Queries.{SayIndexQuery};
 ghost use Rattle.index.specs.Readings.{IsBadRow};
-ghost use Rattle.index.specs.Replies.{HasFault, end_line, host_line, is_timed, row_line};
+ghost use Rattle.index.specs.Replies.{HasIndexFault, end_line, host_line, is_timed, row_line};
 ghost use Rattle.index.specs.Rows.{AreHosts};
-ghost use Rattle.index.specs.Searches.{AppendsReply};
+ghost use Rattle.index.specs.Searches.{AppendsIndexReply};
 ghost use Rattle.index.specs.declared.query.Query.{Query};
 
 use crate::fault::Fault;
@@ -30,21 +30,21 @@ pub(crate) struct ReadingIndex<'a, const HAS_HEADER: bool> {
 
 impl<'a, const HAS_HEADER: bool> Program<'a> for ReadingIndex<'a, HAS_HEADER> {
     ghost use Rattle.std.specs.Prelude.{◌≡◌, []};
-    ghost use Rattle.index.specs.Keys.{IsTable};
+    ghost use Rattle.index.specs.Keys.{IsIndexTable};
     ghost use Rattle.index.specs.Readings.{IsBadRow};
-    ghost use Rattle.index.specs.Replies.{HasReply, HasFault};
+    ghost use Rattle.index.specs.Replies.{HasIndexFault, HasIndexReply};
 
     type Fault = Fault;
 
-    ghost is_table = { λ file index. IsTable HAS_HEADER file index.rows };
+    ghost is_table = { λ file index. IsIndexTable HAS_HEADER file index.rows };
 
     ghost is_heading = { λ file heading. heading ≡ [] };
 
-    ghost is_reply = { HasReply HAS_HEADER };
+    ghost is_reply = { HasIndexReply HAS_HEADER };
 
     ghost is_bad = { IsBadRow HAS_HEADER };
 
-    ghost has_fault = { HasFault };
+    ghost has_fault = { HasIndexFault };
 
     fn load(
         alloc: Global,
@@ -71,7 +71,7 @@ fn rows_of_table(
     has_header: bool,
     file: &[u8],
 ) -> Result<RowMap<'_>, Failure<LineFault<Fault>>>
-    ensures table { IfOk result (IsTable has_header file.now) }
+    ensures table { IfOk result (IsIndexTable has_header file.now) }
     ensures refused { IfErr result (IfBadLine (IsBadRow has_header file.now)) }
 {
     let table = table_of(alloc, has_header, file)?;
@@ -87,10 +87,10 @@ fn answer_line(
     output: &mut Vec<u8>,
 ) -> Result<Option<LineFault<Fault>>, AllocError>
     requires keyed { AreKeyed rows.now }
-    ensures reply { IfOk result (λ fault. IfNone fault ((query : Query) × SayQuery line.now query
-        × AppendsReply (map (λ entry. entry.1) rows.now) query output.old.items output.new.items)) }
+    ensures reply { IfOk result (λ fault. IfNone fault ((query : Query) × SayIndexQuery line.now query
+        × AppendsIndexReply (map (λ entry. entry.1) rows.now) query output.old.items output.new.items)) }
     ensures fault { IfOk result (λ fault. IfSome fault (λ this.
-        HasFault line.now this × (output.new.items ≡ output.old.items))) }
+        HasIndexFault line.now this × (output.new.items ≡ output.old.items))) }
 {
     let query: Query = match item_of(line) {
         Ok(query) => query,
@@ -110,7 +110,7 @@ fn push_reply(
     requires keyed { AreKeyed index.now }
     requires times { HasTimes query.now }
     ensures { OnOk result
-        (AppendsReply (map (λ entry. entry.1) index.now) query.now output.old.items output.new.items) }
+        (AppendsIndexReply (map (λ entry. entry.1) index.now) query.now output.old.items output.new.items) }
 {
     match *query {
         Query::Host(address, from, to) => {

@@ -10,14 +10,14 @@ use Rattle.program_lines.specs.Lines.{lines_of, line_at, SayAll, SayLine}
 use Rattle.program_lines.proofs.Replies.{all_said}
 use Rattle.program_lines.proofs.SaidLines.{get_or-after, said_append}
 use Rattle.art_routes.specs.Networks.{Block}
-use Rattle.art_routes.specs.Tables.{put_route, put_routes, value_of}
+use Rattle.art_routes.specs.Tables.{put_route, put_routes, route_value}
 use Rattle.art_routes.proofs.CallLaws.{none_among, one_among, put_last}
 use Rattle.routes.specs.declared.fault.Fault.{Fault}
 use Rattle.routes.specs.declared.route.Route.{Route}
 use Rattle.routes.specs.Lines.{is_comment, without_comments, SayRouteTo, SayRoute}
-use Rattle.routes.specs.Tables.{AreDistinct, AreRoutes, IsRouteAgain}
-use Rattle.routes.specs.Reading.{AddsRoute, IsNextFault, IsTable}
-use Rattle.routes.specs.Replies.{IsBad, IsFaultAfter}
+use Rattle.routes.specs.Tables.{AreDistinctRoutes, AreRoutes, IsRouteAgain}
+use Rattle.routes.specs.Reading.{AddsRoute, IsNextFault, IsRouteTable}
+use Rattle.routes.specs.Replies.{IsFaultAfter, IsFirstBadRoute}
 
 -- the route has the number of its line
 pub record IsNumbered (lines : List (List ℕ)) (route : Block × Route) : Type 0 where
@@ -32,7 +32,7 @@ pub record IsRead (lines : List (List ℕ)) (table : List (Block × Route)) : Ty
   pub put : table ≡ put_routes [] routes
   pub numbered : All (IsNumbered lines) routes
 
-none_distinct : AreDistinct []
+none_distinct : AreDistinctRoutes []
 none_distinct i j d before within = absurd (omega (arith, within))
 
 none_read : IsRead [] []
@@ -93,7 +93,7 @@ module _ (lines : List (List ℕ)) (table : List (Block × Route)) (read : IsRea
     route_read : (longer : List (Block × Route)) → is_comment line ≡ false → AddsRoute number line table longer → IsRead (lines ++ line ∷ []) longer
     route_read longer test adds =
         let route = adds.route in
-        let others : All (λ (other : Block × Route). other.0 ≢ route.0) read.routes = none_among route.0 read.routes (ap (λ these. value_of these route.0) (sym read.put) ∙ adds.none_before) in
+        let others : All (λ (other : Block × Route). other.0 ≢ route.0) read.routes = none_among route.0 read.routes (ap (λ these. route_value these route.0) (sym read.put) ∙ adds.none_before) in
         let cut : without_comments (lines ++ line ∷ []) ≡ without_comments lines ++ line ∷ [] = without_last lines line ∙ ap (λ more. without_comments lines ++ more) (other_alone line test) in
         let said : SayAll (SayLine SayRoute) (without_comments lines ++ line ∷ []) (read.routes ++ route ∷ []) = said_append (SayLine SayRoute) (without_comments lines) (line ∷ []) read.routes (route ∷ []) read.are_routes.0 (adds.said, tt) in
         record {
@@ -107,10 +107,10 @@ module _ (lines : List (List ℕ)) (table : List (Block × Route)) (read : IsRea
         }
 
     -- the line of the earlier route
-    again : (network : Block) (earlier : Route) → SayLine SayRouteTo line network → value_of table network ≡ Some earlier → IsRouteAgain lines line earlier.number
+    again : (network : Block) (earlier : Route) → SayLine SayRouteTo line network → route_value table network ≡ Some earlier → IsRouteAgain lines line earlier.number
     again network earlier said found =
         let first : Block × Route = (network, earlier) in
-        let listed : Contains read.routes first = one_among network read.routes earlier (ap (λ these. value_of these network) (sym read.put) ∙ found) in
+        let listed : Contains read.routes first = one_among network read.routes earlier (ap (λ these. route_value these network) (sym read.put) ∙ found) in
         let place = All-contains (IsNumbered lines) read.routes first read.numbered listed in
         let own = All-contains IsOwnLine read.routes first (all_said (SayLine SayRoute) IsOwnLine own_line (without_comments lines) read.routes read.are_routes.0) listed in
         (place.from_one, place.within, (network, subst (λ text. SayRouteTo text network) (sym place.at) own, said))
@@ -138,7 +138,7 @@ start_read file table none = record {
 }
 
 module _ (file rest : List ℕ) (number : ℕ) (table : List (Block × Route)) (so_far : IsReadTo file rest number table) where
-  pub all_read : rest ≡ [] → IsTable file table
+  pub all_read : rest ≡ [] → IsRouteTable file table
   all_read none =
       let all : so_far.before ≡ lines_of file = sym (so_far.whole ∙ ap (λ bytes. so_far.before ++ lines_of bytes) none ∙ append-nil so_far.before) in
       (so_far.read.routes, subst (λ lines. AreRoutes lines so_far.read.routes) all so_far.read.are_routes, so_far.read.put)
@@ -166,7 +166,7 @@ module _ (file rest : List ℕ) (number : ℕ) (table : List (Block × Route)) (
     next_route longer shorter test adds =
         next_read longer shorter (route_read so_far.before table so_far.read line (number + 1) counted_next longer test adds)
 
-    pub next_bad : is_comment line ≡ false → (fault : LineFault Fault) → IsNextFault line table fault → IsBad file (record { source = File; number = number + 1; fault = fault })
+    pub next_bad : is_comment line ≡ false → (fault : LineFault Fault) → IsNextFault line table fault → IsFirstBadRoute file (record { source = File; number = number + 1; fault = fault })
     next_bad test fault is = (
       refl,
       (so_far.before, lines_of after, line, so_far.read.routes, here, counted_next, so_far.read.are_routes, test, fault_after so_far.before table so_far.read line (number + 1) counted_next fault is),

@@ -9,11 +9,11 @@ use Rattle.routes.specs.declared.fault.Fault.{Fault}
 use Rattle.routes.specs.declared.fault.Fault.TheVariants.{BadAddress, NoNextHop, BadNetwork, SameNetwork}
 
 -- what a failure's line says of the fault
-abbrev pub fault_text : Fault → List ℕ
-fault_text BadAddress = codes "bad address"
-fault_text NoNextHop = codes "no next hop"
-fault_text (BadNetwork fault) = text_fault_text fault
-fault_text (SameNetwork number) = codes "same network as line " ++ decimal number
+abbrev pub route_fault_text : Fault → List ℕ
+route_fault_text BadAddress = codes "bad address"
+route_fault_text NoNextHop = codes "no next hop"
+route_fault_text (BadNetwork fault) = text_fault_text fault
+route_fault_text (SameNetwork number) = codes "same network as line " ++ decimal number
 
 -- what is wrong with a line that is no route: no next hop comes after a space, or what comes before is no network
 abbrev pub IsRouteFault : List ℕ → Fault → Type 0
@@ -22,5 +22,5 @@ IsRouteFault line (BadNetwork fault) = (text next_hop : List ℕ) × IsCutAt 32 
 IsRouteFault line _ = ⊥
 
 -- what is wrong with a line that is no address
-abbrev pub IsQueryFault : List ℕ → Fault → Type 0
-IsQueryFault line fault = (fault ≡ BadAddress) × ((address : IpAddr) → ¬ IsIpText line address)
+abbrev pub IsRouteQueryFault : List ℕ → Fault → Type 0
+IsRouteQueryFault line fault = (fault ≡ BadAddress) × ((address : IpAddr) → ¬ IsIpText line address)

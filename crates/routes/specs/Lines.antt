@@ -26,5 +26,5 @@ abbrev pub SayRoute : List ℕ → Block × Route → Type 0
 SayRoute line route = (route.1.line.now ≡ line) × SayRouteTo line route.0
 
 -- a line of the input is an address
-abbrev pub SayQuery : List ℕ → Query → Type 0
-SayQuery line query = (query.line.now ≡ line) × IsIpText line query.address
+abbrev pub SayRouteQuery : List ℕ → Query → Type 0
+SayRouteQuery line query = (query.line.now ≡ line) × IsIpText line query.address

@@ -1,6 +1,6 @@
 //! The replies to addresses.
 ghost use Rattle.std.specs.Prelude.{OnOk};
-ghost use Rattle.routes.specs.Reading.{AppendsReply};
+ghost use Rattle.routes.specs.Reading.{AppendsRouteReply};
 
 use crate::fault::Fault;
 use crate::route::Query;
@@ -10,20 +10,20 @@ use std::alloc::{AllocError, Global};
 
 impl<'a> Program<'a> for Table<'a> {
     ghost use Rattle.std.specs.Prelude.{◌≡◌, []};
-    ghost use Rattle.routes.specs.Reading.{IsTable};
-    ghost use Rattle.routes.specs.Replies.{HasReply, IsBad, HasFault};
+    ghost use Rattle.routes.specs.Reading.{IsRouteTable};
+    ghost use Rattle.routes.specs.Replies.{HasRouteReply, IsFirstBadRoute, HasRouteFault};
 
     type Fault = Fault;
 
-    ghost is_table = { λ file table. IsTable file table.routes };
+    ghost is_table = { λ file table. IsRouteTable file table.routes };
 
     ghost is_heading = { λ file heading. heading ≡ [] };
 
-    ghost is_reply = { HasReply };
+    ghost is_reply = { HasRouteReply };
 
-    ghost is_bad = { IsBad };
+    ghost is_bad = { IsFirstBadRoute };
 
-    ghost has_fault = { HasFault };
+    ghost has_fault = { HasRouteFault };
 
     fn load(
         alloc: Global,
@@ -50,7 +50,7 @@ impl<'a> Program<'a> for Table<'a> {
 
 // Appends the line for an address.
 fn push_reply(table: &Table<'_>, query: &Query<'_>, output: &mut Vec<u8>) -> Result<(), AllocError>
-    ensures { OnOk result (AppendsReply table.now.routes query.now output.old.items output.new.items) }
+    ensures { OnOk result (AppendsRouteReply table.now.routes query.now output.old.items output.new.items) }
 {
     output.extend_from_slice(query.line)?;
     match table.routes.longest_match(query.address) {

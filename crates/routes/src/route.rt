@@ -58,12 +58,12 @@ impl<'a> FromLine<'a, Fault> for Network {
 }
 
 impl<'a> FromLine<'a, Fault> for Query<'a> {
-    ghost use Rattle.routes.specs.Faults.{IsQueryFault};
-    ghost use Rattle.routes.specs.Lines.{SayQuery};
+    ghost use Rattle.routes.specs.Faults.{IsRouteQueryFault};
+    ghost use Rattle.routes.specs.Lines.{SayRouteQuery};
 
-    ghost says = { SayQuery };
+    ghost says = { SayRouteQuery };
 
-    ghost has_fault = { IsQueryFault };
+    ghost has_fault = { IsRouteQueryFault };
 
     fn from_line(line: &'a [u8]) -> Result<Query<'a>, Fault> {
         match IpAddr::parse_ascii(line) {

@@ -1,8 +1,8 @@
 //! Tables of routes, read from the lines of a file.
 ghost use Rattle.std.specs.Prelude.{IfOk, IfErr, IfNone, IfSome};
 ghost use Rattle.program_lines.specs.Failures.{IfBadLine};
-ghost use Rattle.routes.specs.Replies.{IsBad};
-ghost use Rattle.routes.specs.Reading.{IsTable, AddsRoute, IsNextFault};
+ghost use Rattle.routes.specs.Replies.{IsFirstBadRoute};
+ghost use Rattle.routes.specs.Reading.{IsRouteTable, AddsRoute, IsNextFault};
 
 use crate::fault::Fault;
 use crate::route::{Route, is_comment};
@@ -25,8 +25,8 @@ pub(crate) fn table_of<'a>(
     alloc: Global,
     file: &'a [u8],
 ) -> Result<Table<'a>, Failure<LineFault<Fault>>>
-    ensures routes { IfOk result (λ table. IsTable file.now table.routes) }
-    ensures refused { IfErr result (IfBadLine (IsBad file.now)) }
+    ensures routes { IfOk result (λ table. IsRouteTable file.now table.routes) }
+    ensures refused { IfErr result (IfBadLine (IsFirstBadRoute file.now)) }
 {
     let mut table = Table {
         routes: RouteTable::new(alloc),

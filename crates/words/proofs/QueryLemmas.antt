@@ -7,13 +7,13 @@ use Rattle.program_lines.specs.Numbers.{IsNumber}
 use Rattle.program_lines.proofs.Cuts.{same_cut, cut_has_one}
 use Rattle.words.specs.declared.query.Query.{Query}
 use Rattle.words.specs.declared.query.Query.TheVariants.{Begin, FirstOf, Count, Before, After}
-use Rattle.words.specs.Queries.{SayQuery, IsFirstOf}
+use Rattle.words.specs.Queries.{SayWordQuery, IsFirstOf}
 
 heads : {a b : ℕ} {xs ys : List ℕ} → a ∷ xs ≡ b ∷ ys → a ≡ b
 heads same = cc
 
 module _ (rest prefix digits : List ℕ) (is : IsCutAt 32 rest prefix digits) where
-  pub says_first : (query : Query) (most : ℕ) (text : List ℕ) → text ≡ prefix → HasNoZero prefix → IsFirstOf query text most → IsNumber digits most → SayQuery (63 ∷ rest) query
+  pub says_first : (query : Query) (most : ℕ) (text : List ℕ) → text ≡ prefix → HasNoZero prefix → IsFirstOf query text most → IsNumber digits most → SayWordQuery (63 ∷ rest) query
   says_first (FirstOf given number) most text same none this counted =
       let at : given.now ≡ prefix = this.0 ∙ same in
       (digits, ap (λ bytes. 63 ∷ bytes) is.0 ∙ ap (λ bytes. 63 ∷ bytes ++ 32 ∷ digits) (sym at), (subst HasNoZero (sym at) none, subst (HasNo 32) (sym at) is.1), subst (IsNumber digits) (sym this.1) counted)
@@ -23,7 +23,7 @@ module _ (rest prefix digits : List ℕ) (is : IsCutAt 32 rest prefix digits) wh
   says_first (After given) most text same none this counted = absurd this
 
   -- what is no such query is none
-  pub says_none : ((most : ℕ) → HasNoZero prefix → IsNumber digits most → ⊥) → (query : Query) → SayQuery (63 ∷ rest) query → ⊥
+  pub says_none : ((most : ℕ) → HasNoZero prefix → IsNumber digits most → ⊥) → (query : Query) → SayWordQuery (63 ∷ rest) query → ⊥
   says_none refused (FirstOf given number) (other, line, (none, no_space), counted) =
       let whole : prefix ++ 32 ∷ digits ≡ given.now ++ 32 ∷ other = sym is.0 ∙ tail_of line in
       let same = same_cut 32 prefix given.now digits other is.1 no_space whole in

@@ -7,11 +7,11 @@ use Rattle.words.specs.declared.fault.Fault.{Fault}
 use Rattle.words.specs.declared.fault.Fault.TheVariants.{ZeroByte, WordTooLong, UnknownQuery, BadNumber}
 
 -- what a failure's line says of the fault
-abbrev pub fault_text : Fault → List ℕ
-fault_text ZeroByte = codes "zero byte"
-fault_text WordTooLong = codes "word too long"
-fault_text UnknownQuery = codes "unknown query"
-fault_text BadNumber = codes "bad number"
+abbrev pub word_fault_text : Fault → List ℕ
+word_fault_text ZeroByte = codes "zero byte"
+word_fault_text WordTooLong = codes "word too long"
+word_fault_text UnknownQuery = codes "unknown query"
+word_fault_text BadNumber = codes "bad number"
 
 -- what is wrong with a line that is no word
 abbrev pub IsWordFault : List ℕ → Fault → Type 0
@@ -27,8 +27,8 @@ IsBeginFault rest BadNumber = (prefix digits : List ℕ) × IsCutAt 32 rest pref
 IsBeginFault rest _ = ⊥
 
 -- what is wrong with a line that is no query: it begins with none of `?`, `#`, `<` and `>`, or what follows is wrong
-abbrev pub IsQueryFault : List ℕ → Fault → Type 0
-IsQueryFault line UnknownQuery = (first : ℕ) (rest : List ℕ) → line ≡ first ∷ rest → (first ≢ 63) × (first ≢ 35) × (first ≢ 60) × (first ≢ 62)
-IsQueryFault line fault =
+abbrev pub IsWordQueryFault : List ℕ → Fault → Type 0
+IsWordQueryFault line UnknownQuery = (first : ℕ) (rest : List ℕ) → line ≡ first ∷ rest → (first ≢ 63) × (first ≢ 35) × (first ≢ 60) × (first ≢ 62)
+IsWordQueryFault line fault =
     ((rest : List ℕ) × (line ≡ 63 ∷ rest) × IsBeginFault rest fault)
     ⊎ ((fault ≡ ZeroByte) × ((first : ℕ) × (text : List ℕ) × ((first ≡ 35) ⊎ ((first ≡ 60) ⊎ (first ≡ 62))) × (line ≡ first ∷ text) × (¬ HasNoZero text)))

@@ -4,8 +4,8 @@ use Rattle.std.specs.Vec.{vec_items}
 use Rattle.words.specs.Replies.{IsList}
 
 -- the words of these entries, each of a word and its place
-abbrev pub words_of : {A : Type 0} → List (Vec ℕ A × ℕ) → List (List ℕ)
-words_of entries = map (λ entry. vec_items entry.0) entries
+abbrev pub entry_words : {A : Type 0} → List (Vec ℕ A × ℕ) → List (List ℕ)
+entry_words entries = map (λ entry. vec_items entry.0) entries
 
 -- the places count up from this number
 abbrev pub CountsFrom : {K : Type 0} → ℕ → List (K × ℕ) → Type 0
@@ -17,5 +17,5 @@ abbrev pub Counts : {K : Type 0} → List (K × ℕ) → Type 0
 Counts entries = (n : ℕ) × CountsFrom n entries
 
 -- the entries are the words of this list, with their places
-abbrev pub IsTable : {A : Type 0} → List ℕ → List (Vec ℕ A × ℕ) → Type 0
-IsTable list entries = IsList list (words_of entries) × CountsFrom 0 entries
+abbrev pub IsWordTable : {A : Type 0} → List ℕ → List (Vec ℕ A × ℕ) → Type 0
+IsWordTable list entries = IsList list (entry_words entries) × CountsFrom 0 entries

@@ -16,13 +16,13 @@ abbrev pub IsPrefix : List ℕ → Type 0
 IsPrefix text = HasNoZero text × HasNo 32 text
 
 -- a line of the input is a query: `?PREFIX`, `?PREFIX N`, `#PREFIX`, `<WORD` or `>WORD`
-abbrev pub SayQuery : List ℕ → Query → Type 0
-SayQuery line (Begin prefix) = (line ≡ 63 ∷ prefix.now) × IsPrefix prefix.now
-SayQuery line (FirstOf prefix most) =
+abbrev pub SayWordQuery : List ℕ → Query → Type 0
+SayWordQuery line (Begin prefix) = (line ≡ 63 ∷ prefix.now) × IsPrefix prefix.now
+SayWordQuery line (FirstOf prefix most) =
     (digits : List ℕ) × (line ≡ 63 ∷ prefix.now ++ 32 ∷ digits) × IsPrefix prefix.now × IsNumber digits most
-SayQuery line (Count prefix) = (line ≡ 35 ∷ prefix.now) × HasNoZero prefix.now
-SayQuery line (Before word) = (line ≡ 60 ∷ word.now) × HasNoZero word.now
-SayQuery line (After word) = (line ≡ 62 ∷ word.now) × HasNoZero word.now
+SayWordQuery line (Count prefix) = (line ≡ 35 ∷ prefix.now) × HasNoZero prefix.now
+SayWordQuery line (Before word) = (line ≡ 60 ∷ word.now) × HasNoZero word.now
+SayWordQuery line (After word) = (line ≡ 62 ∷ word.now) × HasNoZero word.now
 
 -- the query is for the first words with this prefix, so many of them. No public clause cites it
 abbrev pub IsFirstOf : Query → List ℕ → ℕ → Type 0
@@ -31,4 +31,4 @@ IsFirstOf _ text number = ⊥
 
 -- some line says the query. No public clause cites it
 abbrev pub IsSaid : Query → Type 0
-IsSaid query = (line : List ℕ) × SayQuery line query
+IsSaid query = (line : List ℕ) × SayWordQuery line query

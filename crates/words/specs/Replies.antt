@@ -13,20 +13,20 @@ use Rattle.words.specs.declared.dictionary.Word.{Word}
 use Rattle.words.specs.declared.fault.Fault.{Fault}
 use Rattle.words.specs.declared.query.Query.{Query}
 use Rattle.words.specs.declared.query.Query.TheVariants.{Begin, FirstOf, Count, Before, After}
-use Rattle.words.specs.Faults.{IsWordFault, IsQueryFault}
-use Rattle.words.specs.Queries.{SayWord, SayQuery}
+use Rattle.words.specs.Faults.{IsWordFault, IsWordQueryFault}
+use Rattle.words.specs.Queries.{SayWord, SayWordQuery}
 use Rattle.words.specs.Dictionaries.{IsDictionary}
 
 -- the words that begin with the prefix
-abbrev pub with_prefix : List ℕ → List (List ℕ) → List (List ℕ)
-with_prefix prefix words = filter (λ word. starts_with nat_eq word prefix) words
+abbrev pub words_with_prefix : List ℕ → List (List ℕ) → List (List ℕ)
+words_with_prefix prefix words = filter (λ word. starts_with nat_eq word prefix) words
 
 -- the words below this one, and those above it
-abbrev pub below : List ℕ → List (List ℕ) → List (List ℕ)
-below this words = filter (λ word. is_lt (text_order word this)) words
+abbrev pub words_below : List ℕ → List (List ℕ) → List (List ℕ)
+words_below this words = filter (λ word. is_lt (text_order word this)) words
 
-abbrev pub above : List ℕ → List (List ℕ) → List (List ℕ)
-above this words = filter (λ word. is_gt (text_order word this)) words
+abbrev pub words_above : List ℕ → List (List ℕ) → List (List ℕ)
+words_above this words = filter (λ word. is_gt (text_order word this)) words
 
 -- a line with the word, or with none
 abbrev pub neighbour : Option (List ℕ) → List ℕ
@@ -35,11 +35,11 @@ neighbour (Some word) = line word
 
 -- what a query prints, where these are the words in order
 abbrev pub reply : List (List ℕ) → Query → List ℕ
-reply words (Begin prefix) = flat_map line (with_prefix prefix.now words)
-reply words (FirstOf prefix most) = flat_map line (take most (with_prefix prefix.now words))
-reply words (Count prefix) = line (decimal (length (with_prefix prefix.now words)))
-reply words (Before word) = neighbour (slice_get (below word.now words) (length (below word.now words) - 1))
-reply words (After word) = neighbour (slice_get (above word.now words) 0)
+reply words (Begin prefix) = flat_map line (words_with_prefix prefix.now words)
+reply words (FirstOf prefix most) = flat_map line (take most (words_with_prefix prefix.now words))
+reply words (Count prefix) = line (decimal (length (words_with_prefix prefix.now words)))
+reply words (Before word) = neighbour (slice_get (words_below word.now words) (length (words_below word.now words) - 1))
+reply words (After word) = neighbour (slice_get (words_above word.now words) 0)
 
 -- the first line of the output: how many words there are, in how many lines
 abbrev pub counts : List (List ℕ) → List (List ℕ) → List ℕ
@@ -54,15 +54,15 @@ abbrev pub IsHeading : List ℕ → List ℕ → Type 0
 IsHeading list heading = (words : List (List ℕ)) × IsList list words × (heading ≡ counts words (lines_of list))
 
 -- a line of the input is a query, and this is the reply
-abbrev pub HasReply : List ℕ → List ℕ → List ℕ → Type 0
-HasReply list line text = (words : List (List ℕ)) × (query : Query) × IsList list words × SayLine SayQuery line query × (text ≡ reply words query)
+abbrev pub HasWordReply : List ℕ → List ℕ → List ℕ → Type 0
+HasWordReply list line text = (words : List (List ℕ)) × (query : Query) × IsList list words × SayLine SayWordQuery line query × (text ≡ reply words query)
 
 -- this is the first line of the list that is no word, and its fault
-abbrev pub IsBad : List ℕ → BadLine (LineFault Fault) → Type 0
-IsBad list bad =
+abbrev pub IsFirstBadWord : List ℕ → BadLine (LineFault Fault) → Type 0
+IsFirstBadWord list bad =
     (bad.source ≡ File) × IsFirstBad (SayLine SayWord) (lines_of list) bad.number
     × IsLineFault IsWordFault (line_at (lines_of list) bad.number) bad.fault
 
 -- a line of the input is no query, and this is its fault
-abbrev pub HasFault : List ℕ → LineFault Fault → Type 0
-HasFault line fault = ((query : Query) → ¬ SayLine SayQuery line query) × IsLineFault IsQueryFault line fault
+abbrev pub HasWordFault : List ℕ → LineFault Fault → Type 0
+HasWordFault line fault = ((query : Query) → ¬ SayLine SayWordQuery line query) × IsLineFault IsWordQueryFault line fault

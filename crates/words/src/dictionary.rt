@@ -1,7 +1,7 @@
 //! The list of words, and the dictionary of them.
 ghost use Rattle.std.specs.Prelude.{◌≡◌, map, IfOk};
 ghost use Rattle.words.specs.Dictionaries.{IsDictionary};
-ghost use Rattle.words.specs.Places.{CountsFrom, words_of};
+ghost use Rattle.words.specs.Places.{CountsFrom, entry_words};
 ghost use Rattle.words.specs.Queries.{SayWord};
 
 use crate::fault::Fault;
@@ -40,7 +40,7 @@ impl<'a> FromLine<'a, Fault> for Word<'a> {
 /// The dictionary of these words.
 pub(crate) fn dictionary_of(alloc: Global, words: &[Word<'_>]) -> Result<Dictionary, AllocError>
     ensures words { IfOk result (λ entries.
-        IsDictionary (map (λ word. word.bytes.now) words.now) (words_of entries)) }
+        IsDictionary (map (λ word. word.bytes.now) words.now) (entry_words entries)) }
     ensures places { IfOk result (CountsFrom 0) }
 {
     let mut dictionary = unnumbered(alloc, words)?;
@@ -51,7 +51,7 @@ pub(crate) fn dictionary_of(alloc: Global, words: &[Word<'_>]) -> Result<Diction
 // The dictionary of these words, where each word has place 0.
 fn unnumbered(alloc: Global, words: &[Word<'_>]) -> Result<Dictionary, AllocError>
     ensures { IfOk result (λ entries.
-        IsDictionary (map (λ word. word.bytes.now) words.now) (words_of entries)) }
+        IsDictionary (map (λ word. word.bytes.now) words.now) (entry_words entries)) }
 {
     let mut dictionary: Dictionary = Map::new(alloc);
     for word in words {
@@ -65,7 +65,7 @@ fn unnumbered(alloc: Global, words: &[Word<'_>]) -> Result<Dictionary, AllocErro
 
 // Gives each word its place.
 fn number(dictionary: &mut Dictionary)
-    ensures words { words_of dictionary.new ≡ words_of dictionary.old }
+    ensures words { entry_words dictionary.new ≡ entry_words dictionary.old }
     ensures places { CountsFrom 0 dictionary.new }
 {
     let _count = dictionary.len();

@@ -2,8 +2,8 @@
 ghost use Rattle.std.specs.Prelude.{◌≡◌, ℕ, ◌∷◌, IfErr, IfOk, OnErr};
 ghost use Rattle.art_bytes.specs.CString.{HasNoZero};
 ghost use Rattle.program_lines.specs.Numbers.{IsNumber};
-ghost use Rattle.words.specs.Faults.{IsBeginFault, IsQueryFault};
-ghost use Rattle.words.specs.Queries.{SayQuery, IsFirstOf};
+ghost use Rattle.words.specs.Faults.{IsBeginFault, IsWordQueryFault};
+ghost use Rattle.words.specs.Queries.{SayWordQuery, IsFirstOf};
 ghost use Rattle.words.specs.declared.fault.Fault.TheVariants.{ZeroByte, BadNumber};
 ghost use Rattle.words.specs.declared.query.Query.{Query};
 
@@ -26,12 +26,12 @@ pub enum Query<'a> {
 }
 
 impl<'a> FromLine<'a, Fault> for Query<'a> {
-    ghost use Rattle.words.specs.Faults.{IsQueryFault};
-    ghost use Rattle.words.specs.Queries.{SayQuery};
+    ghost use Rattle.words.specs.Faults.{IsWordQueryFault};
+    ghost use Rattle.words.specs.Queries.{SayWordQuery};
 
-    ghost says = { SayQuery };
+    ghost says = { SayWordQuery };
 
-    ghost has_fault = { IsQueryFault };
+    ghost has_fault = { IsWordQueryFault };
 
     fn from_line(line: &'a [u8]) -> Result<Query<'a>, Fault> {
         match line {
@@ -46,9 +46,9 @@ impl<'a> FromLine<'a, Fault> for Query<'a> {
 
 // The query for what follows `#`.
 fn count(prefix: &[u8]) -> Result<Query<'_>, Fault>
-    ensures said { IfOk result (SayQuery (35 ∷ prefix.now)) }
-    ensures refused { OnErr result ((query : Query) → ¬ SayQuery (35 ∷ prefix.now) query) }
-    ensures fault { IfErr result (IsQueryFault (35 ∷ prefix.now)) }
+    ensures said { IfOk result (SayWordQuery (35 ∷ prefix.now)) }
+    ensures refused { OnErr result ((query : Query) → ¬ SayWordQuery (35 ∷ prefix.now) query) }
+    ensures fault { IfErr result (IsWordQueryFault (35 ∷ prefix.now)) }
 {
     match without_zero(prefix) {
         Ok(prefix) => Ok(Query::Count(prefix)),
@@ -58,9 +58,9 @@ fn count(prefix: &[u8]) -> Result<Query<'_>, Fault>
 
 // The query for what follows `<`.
 fn before(word: &[u8]) -> Result<Query<'_>, Fault>
-    ensures said { IfOk result (SayQuery (60 ∷ word.now)) }
-    ensures refused { OnErr result ((query : Query) → ¬ SayQuery (60 ∷ word.now) query) }
-    ensures fault { IfErr result (IsQueryFault (60 ∷ word.now)) }
+    ensures said { IfOk result (SayWordQuery (60 ∷ word.now)) }
+    ensures refused { OnErr result ((query : Query) → ¬ SayWordQuery (60 ∷ word.now) query) }
+    ensures fault { IfErr result (IsWordQueryFault (60 ∷ word.now)) }
 {
     match without_zero(word) {
         Ok(word) => Ok(Query::Before(word)),
@@ -70,9 +70,9 @@ fn before(word: &[u8]) -> Result<Query<'_>, Fault>
 
 // The query for what follows `>`.
 fn after(word: &[u8]) -> Result<Query<'_>, Fault>
-    ensures said { IfOk result (SayQuery (62 ∷ word.now)) }
-    ensures refused { OnErr result ((query : Query) → ¬ SayQuery (62 ∷ word.now) query) }
-    ensures fault { IfErr result (IsQueryFault (62 ∷ word.now)) }
+    ensures said { IfOk result (SayWordQuery (62 ∷ word.now)) }
+    ensures refused { OnErr result ((query : Query) → ¬ SayWordQuery (62 ∷ word.now) query) }
+    ensures fault { IfErr result (IsWordQueryFault (62 ∷ word.now)) }
 {
     match without_zero(word) {
         Ok(word) => Ok(Query::After(word)),
@@ -82,8 +82,8 @@ fn after(word: &[u8]) -> Result<Query<'_>, Fault>
 
 // The query for what follows `?`: a prefix without a space, and a number after a space if there is one.
 fn beginning(rest: &[u8]) -> Result<Query<'_>, Fault>
-    ensures said { IfOk result (SayQuery (63 ∷ rest.now)) }
-    ensures refused { OnErr result ((query : Query) → ¬ SayQuery (63 ∷ rest.now) query) }
+    ensures said { IfOk result (SayWordQuery (63 ∷ rest.now)) }
+    ensures refused { OnErr result ((query : Query) → ¬ SayWordQuery (63 ∷ rest.now) query) }
     ensures fault { IfErr result (IsBeginFault rest.now) }
 {
     match split_once(rest, b' ') {

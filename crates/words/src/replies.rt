@@ -4,7 +4,7 @@ ghost use Rattle.std.specs.Fmt.{decimal};
 ghost use Rattle.std.specs.List.{flat_map};
 ghost use Rattle.std.specs.Option.{option_map};
 ghost use Rattle.program_lines.specs.Lines.{line};
-ghost use Rattle.words.specs.Places.{Counts, CountsFrom, words_of};
+ghost use Rattle.words.specs.Places.{Counts, CountsFrom, entry_words};
 ghost use Rattle.words.specs.Queries.{IsSaid};
 ghost use Rattle.words.specs.Replies.{reply, neighbour};
 
@@ -25,20 +25,20 @@ pub(crate) struct Words {
 }
 
 impl<'a> Program<'a> for Words {
-    ghost use Rattle.words.specs.Places.{IsTable};
-    ghost use Rattle.words.specs.Replies.{IsHeading, HasReply, IsBad, HasFault};
+    ghost use Rattle.words.specs.Places.{IsWordTable};
+    ghost use Rattle.words.specs.Replies.{IsHeading, HasWordReply, IsFirstBadWord, HasWordFault};
 
     type Fault = Fault;
 
-    ghost is_table = { λ list words. IsTable list words.dictionary };
+    ghost is_table = { λ list words. IsWordTable list words.dictionary };
 
     ghost is_heading = { IsHeading };
 
-    ghost is_reply = { HasReply };
+    ghost is_reply = { HasWordReply };
 
-    ghost is_bad = { IsBad };
+    ghost is_bad = { IsFirstBadWord };
 
-    ghost has_fault = { HasFault };
+    ghost has_fault = { HasWordFault };
 
     fn load(
         alloc: Global,
@@ -79,7 +79,7 @@ fn push_reply(
     requires places { CountsFrom 0 dictionary.now }
     requires said { IsSaid query.now }
     ensures { OnOk result (output.new.items
-        ≡ output.old.items ++ reply (words_of dictionary.now) query.now) }
+        ≡ output.old.items ++ reply (entry_words dictionary.now) query.now) }
 {
     match *query {
         Query::Begin(prefix) => push_words(dictionary.prefix(prefix), output)?,
@@ -134,7 +134,7 @@ fn count_of(mut entries: Entries<'_>, most: usize) -> usize
 // Appends a line for each word.
 fn push_words(entries: Entries<'_>, output: &mut Vec<u8>) -> Result<(), AllocError>
     ensures { OnOk result (output.new.items
-        ≡ output.old.items ++ flat_map line (words_of entries.entry)) }
+        ≡ output.old.items ++ flat_map line (entry_words entries.entry)) }
 {
     for (key, _) in entries {
         push_line(output, key)?;
@@ -145,7 +145,7 @@ fn push_words(entries: Entries<'_>, output: &mut Vec<u8>) -> Result<(), AllocErr
 // Appends a line for each of the first words, at most so many.
 fn push_first_words(entries: Entries<'_>, most: u64, output: &mut Vec<u8>) -> Result<(), AllocError>
     ensures { OnOk result (output.new.items
-        ≡ output.old.items ++ flat_map line (take most (words_of entries.entry))) }
+        ≡ output.old.items ++ flat_map line (take most (entry_words entries.entry))) }
 {
     let mut left = most;
     for (key, _) in entries {

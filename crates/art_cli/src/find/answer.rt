@@ -1,6 +1,6 @@
 //! The result of a query.
 ghost use Rattle.art_cli.specs.Find.{Entries};
-ghost use Rattle.art_cli.specs.Answer.{HoldsEntries, IsAnswer};
+ghost use Rattle.art_cli.specs.Answer.{HoldsEntries, IsFindAnswer};
 
 use art_tree::laws::entries_are_what_leaves_hold;
 use art_tree::{ArenaReader, ArtTree, AsBytes, TreePath, find_leaf};
@@ -14,7 +14,7 @@ pub(crate) fn answer<K: AsBytes, const PREFIX_LEN: usize>(
     query: &[u8],
 ) -> (Option<Found<K, PREFIX_LEN>>, usize)
     ensures { (entries : Entries) → HoldsEntries K.text tree.now.arena entries →
-        IsAnswer entries query.now result.0 result.1 }
+        IsFindAnswer entries query.now result.0 result.1 }
 {
     entries_are_what_leaves_hold::<K, usize, PREFIX_LEN>();
     let Some(root) = tree.root() else {

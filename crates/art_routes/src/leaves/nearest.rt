@@ -6,10 +6,10 @@ ghost use Rattle.art_arena.specs.Links.{HoldsLeaf};
 ghost use Rattle.art_arena.specs.Trees.{leaves};
 ghost use Rattle.art_steps.specs.Art.{IsAlone};
 ghost use Rattle.art_search.specs.Search.{leaf_pointer};
-ghost use Rattle.art_steps.specs.Sides.{IsNextTo};
+ghost use Rattle.art_steps.specs.Sides.{IsBesideKey};
 ghost use Rattle.art_steps.specs.declared.place.Side.{Side};
 ghost use Rattle.art_routes.specs.Keys.{key_text};
-ghost use Rattle.art_routes.specs.NearestLeaves.{IsNearest};
+ghost use Rattle.art_routes.specs.NearestLeaves.{IsBesideKeyOrNone};
 
 use crate::leaves::{RouteArena, RouteLeaf};
 use art_tree::End;
@@ -24,8 +24,8 @@ pub(crate) fn leaf_toward<V>(
     requires { HoldsLeaf arena.now (slab_key beside.0) }
     ensures { (root whole : _) (side : Side) (key : List ℕ) →
         IsAlone key_text arena.now root whole →
-        IsNextTo side key (leaves whole) beside.1 (leaf_pointer beside.0) →
-        IsNearest side key end (leaves whole) (option_map leaf_pointer result) }
+        IsBesideKey side key (leaves whole) beside.1 (leaf_pointer beside.0) →
+        IsBesideKeyOrNone side key end (leaves whole) (option_map leaf_pointer result) }
 {
     let (leaf, side_of_leaf) = beside;
     match end {

@@ -2,7 +2,7 @@
 ghost use Rattle.std.specs.Prelude.{◌≡◌, Some};
 ghost use Rattle.art_nodes.specs.Pointers.{slab_key};
 ghost use Rattle.art_arena.specs.Links.{leaf_at};
-ghost use Rattle.art_routes.specs.LeafRuns.{at_end, run_entries, IsRun, IsTaken, StepsOver};
+ghost use Rattle.art_routes.specs.LeafRuns.{at_end, run_entries, IsRun, IsEndAndRest, StepsOver};
 
 use crate::leaves::{RouteArena, RouteLeaf};
 use crate::route_key::RouteKey;
@@ -58,7 +58,7 @@ pub(crate) fn take<'a, V>(
     end: End,
 ) -> (&'a RouteKey, &'a V, Option<Ends<V>>)
     requires { IsRun arena.now (Some ends) }
-    ensures taken { IsTaken end (run_entries arena.now (Some ends)) (result.0.now, result.1.now)
+    ensures taken { IsEndAndRest end (run_entries arena.now (Some ends)) (result.0.now, result.1.now)
         (run_entries arena.now result.2) }
     ensures rest { IsRun arena.now result.2 }
 {
@@ -75,7 +75,7 @@ pub(crate) fn take_out<V>(
     end: End,
 ) -> ((RouteKey, V), Option<Ends<V>>)
     requires { IsRun arena.old (Some ends) }
-    ensures taken { IsTaken end (run_entries arena.old (Some ends)) result.0 (run_entries arena.new result.1) }
+    ensures taken { IsEndAndRest end (run_entries arena.old (Some ends)) result.0 (run_entries arena.new result.1) }
     ensures rest { IsRun arena.new result.1 }
 {
     let leaf = arena.deallocate_node_ptr(leaf_at_end(ends, end));

@@ -7,7 +7,7 @@ ghost use Rattle.std.specs.List.Sorted.{IsStrictlySortedBy};
 ghost use Rattle.std.specs.Set.{remove_key};
 ghost use Rattle.std.specs.declared.cmp.Ordering.TheVariants.{Equal};
 ghost use Rattle.art_map.specs.declared.fault.InsertRefusal.TheVariants.{KeyTooLong};
-ghost use Rattle.art_set.specs.KeyLists.{contains_by, get_by};
+ghost use Rattle.art_set.specs.KeyLists.{contains_by, find_by};
 
 use super::Set;
 use art_keys::{RadixKey, RadixQuery};
@@ -49,7 +49,7 @@ impl<K: RadixKey> Set<K> {
     pub fn replace(&mut self, key: K) -> Result<Option<K>, InsertFault<K, ()>>
     where
         K: Drop,
-        ensures old { IfOk result (λ old. old ≡ get_by (K.cmp key) self.old) }
+        ensures old { IfOk result (λ old. old ≡ find_by (K.cmp key) self.old) }
         ensures keys { OnOk result (self.new ≡ replace_key K.cmp self.old key) }
         ensures len { IfOk result (λ old. length self.new ≡ length self.old + (if is_some old then 0 else 1)) }
         ensures too_long { IfErr result
@@ -73,7 +73,7 @@ impl<K: RadixKey> Set<K> {
 
     /// Takes out the key of a query, if the set has it. It is never refused.
     pub fn take<Q: RadixQuery<K>>(&mut self, key: Q) -> Option<K>
-        ensures key { result ≡ get_by (Q.compare key) self.old }
+        ensures key { result ≡ find_by (Q.compare key) self.old }
         ensures same_key { IfSome result (λ found. Q.compare key found ≡ Equal) }
         ensures variant { is_some result ≡ contains_by (Q.compare key) self.old }
         ensures keys { self.new ≡ remove_key (is_at (Q.compare key)) self.old }

@@ -4,7 +4,7 @@ ghost use Rattle.std.specs.Option.{option_copied};
 ghost use Rattle.std.specs.Ordering.{is_gt, is_lt};
 ghost use Rattle.std.specs.List.Sorted.{IsStrictlySortedBy};
 ghost use Rattle.std.specs.declared.cmp.Ordering.TheVariants.{Equal};
-ghost use Rattle.art_set.specs.KeyLists.{IsLowerBound, IsUpperBound, contains_by, get_by};
+ghost use Rattle.art_set.specs.KeyLists.{IsLowerKeyBound, IsUpperKeyBound, contains_by, find_by};
 
 use super::Set;
 use art_keys::{RadixKey, RadixQuery};
@@ -20,7 +20,7 @@ impl<K: RadixKey> Set<K> {
 
     /// The key of the set that a query asks for.
     pub fn get<Q: RadixQuery<K>>(&self, key: Q) -> Option<&K>
-        ensures key { option_copied result ≡ get_by (Q.compare key) self.now }
+        ensures key { option_copied result ≡ find_by (Q.compare key) self.now }
         ensures same_key { IfSome result (λ found. Q.compare key found.now ≡ Equal) }
         ensures variant { is_some result ≡ contains_by (Q.compare key) self.now }
     {
@@ -45,7 +45,7 @@ impl<K: RadixKey> Set<K> {
     pub fn first(&self) -> Option<&K>
         ensures first { option_copied result ≡ slice_get self.now 0 }
         ensures member { IfSome result (λ key. IsTrue (contains_by (K.cmp key.now) self.now)) }
-        ensures least { IfSome result (λ key. IsLowerBound K.cmp self.now key.now) }
+        ensures least { IfSome result (λ key. IsLowerKeyBound K.cmp self.now key.now) }
         ensures all_from { IfSome result
             (λ key. All (λ other. is_gt (K.cmp key.now other) ≡ false) self.now) }
         ensures none { IfNone result (self.now ≡ []) }
@@ -58,7 +58,7 @@ impl<K: RadixKey> Set<K> {
     pub fn last(&self) -> Option<&K>
         ensures last { option_copied result ≡ slice_get self.now (length self.now - 1) }
         ensures member { IfSome result (λ key. IsTrue (contains_by (K.cmp key.now) self.now)) }
-        ensures greatest { IfSome result (λ key. IsUpperBound K.cmp self.now key.now) }
+        ensures greatest { IfSome result (λ key. IsUpperKeyBound K.cmp self.now key.now) }
         ensures all_up_to { IfSome result
             (λ key. All (λ other. is_lt (K.cmp key.now other) ≡ false) self.now) }
         ensures none { IfNone result (self.now ≡ []) }

@@ -1,10 +1,10 @@
 -- Insertion: a new leaf under a node that has no child under its byte.
-use Rattle.art_steps.proofs.Names.{◌≡◌, ◌≢◌, ◌∙◌, ◌↔◌, Bool, IsTrue, ℕ, ◌+◌, ◌<◌, ◌≤◌, ◌^◌, List, [], ◌∷◌, ◌++◌, length, AllPairs, Contains, Some, None, refl, sym, ap, subst, inl, inr, arith, All-contains, Contains-append_left, Contains-append_right, Contains-append_cases, kind_for, most_children, grown_kind, NodeType, Less, text_order, IsAscending, key_bytes, child_at, with_child, node_kind, opaque_key, opaque_pointer, OpaqueNodePtr, NodeArena, HeldInner, HeldLeaf, Nothing, held, SameNodes, SameOtherRoom, AreDistinct, Spells, text_at, NodeStands, StandsIn, AllStandIn, Tree, Inner, branch_roots, leaves, branch_leaves, texts, places, branch_places, IsSound, IsAlone, IsArt, Context, plug, path_to, leaves_before, leaves_after, KeepsAt, join, HasGap, IsBeside, HoldsEntry, HasOneMore, HasRoomToGrow, LiesBeside, StaysAt, TellsFull, CanHang, HasPlaceAt, IsHung, StandsBeside, IsEntered, HasSmallestKinds, HaveSmallestKinds, above, LacksChild, End, Spot, one-inner, the_one, LeafKind, Node16, Node256, Node4, Node48, InnerNode, node_with_child}
-use Rattle.art_steps.proofs.InsertLemmas.AddedLeaf.{AreSteps, HasTaken, below-kept, can-hang, last-others, tree-added}
+use Rattle.art_steps.proofs.Names.{◌≡◌, ◌≢◌, ◌∙◌, ◌↔◌, Bool, IsTrue, ℕ, ◌+◌, ◌<◌, ◌≤◌, ◌^◌, List, [], ◌∷◌, ◌++◌, length, AllPairs, Contains, Some, None, refl, sym, ap, subst, inl, inr, arith, All-contains, Contains-append_left, Contains-append_right, Contains-append_cases, kind_for, most_children, grown_kind, NodeType, Less, text_order, IsAscending, key_bytes, child_at, with_child, node_kind, opaque_key, opaque_pointer, OpaqueNodePtr, NodeArena, HeldInner, HeldLeaf, Nothing, held, SameNodes, SameOtherRoom, AreDistinct, IsLinkedList, text_at, NodeStands, StandsIn, AllStandIn, Tree, Inner, branch_roots, leaves, branch_leaves, texts, places, branch_places, IsSound, IsAlone, IsArt, Context, plug, path_to, leaves_before, leaves_after, KeepsAt, join, HasGap, IsBeside, HoldsEntry, HasOneMore, HasRoomToGrow, IsOnSide, StaysAt, WhetherFull, HasChildUnder, HasGapUnder, IsChildOrRoot, IsLeafBeside, IsEntered, HasSmallestKinds, HaveSmallestKinds, above, LacksChild, End, Spot, one-inner, the_one, LeafKind, Node16, Node256, Node4, Node48, InnerNode, node_with_child}
+use Rattle.art_steps.proofs.InsertLemmas.AddedLeaf.{AreSteps, HasTaken, below-kept, has-child_under, last-others, tree-added}
 use Rattle.art_steps.proofs.SharedLemmas.BranchLemmas.{leaves-join, places-join, smallest_kinds-split, stand-split}
 use Rattle.art_steps.proofs.SharedLemmas.DictionaryLemmas.{AreApart}
 use Rattle.art_steps.proofs.SharedLemmas.ExchangedSubtree.{distinct-part, kept-branches, sound-part, smallest_kinds-part, stands-part}
-use Rattle.art_steps.proofs.InsertLemmas.GapLemmas.{beside-key, gap, keys_of, lies, spelled-parts}
+use Rattle.art_steps.proofs.InsertLemmas.GapLemmas.{beside-key, gap, keys_of, lies, list-parts}
 use Rattle.art_steps.proofs.SharedLemmas.ExchangedTree.{alone-same}
 use Rattle.art_steps.proofs.SharedLemmas.ParentLemmas.{inner-kind}
 use Rattle.art_steps.proofs.InsertLemmas.NodeLemmas.{few-where-absent}
@@ -60,18 +60,18 @@ module _ {K V : Type 0} {P : ℕ} {text : K → List ℕ} {old : NodeArena K V P
   pub gap-there : HasChildPlace (path_to around_it) lacks.prefix lacks.branches byte
   gap-there = child-place (path_to around_it) lacks.prefix spot.node lacks.branches byte sound-there child_spot.fits lacks.absent
 
-  abbrev pub place-there : HasPlaceAt text old spot.node byte
+  abbrev pub place-there : HasGapUnder text old spot.node byte
   place-there = byte-place text old spot.node (path_to around_it) lacks.prefix lacks.branches byte gap-there stands-there sound-there
 
   pub leaves-there : leaves node_there ≡ branch_leaves gap-there.before ++ branch_leaves gap-there.after
   leaves-there = ap branch_leaves (sym gap-there.same) ∙ leaves-join gap-there.before gap-there.after
 
   -- the leaf beside the gap
-  module _ (end : End) (sibling : ℕ) (beside : StandsBeside end (branch_leaves gap-there.before) (branch_leaves gap-there.after) (opaque_pointer LeafKind sibling)) where
+  module _ (end : End) (sibling : ℕ) (beside : IsLeafBeside end (branch_leaves gap-there.before) (branch_leaves gap-there.after) (opaque_pointer LeafKind sibling)) where
     pub child-gap : HasGap old end sibling
     child-gap = gap text old root around_it node_there gap-there.before gap-there.after alone-there leaves-there end sibling beside
 
-    pub child-lies : length (text key) < 2 ^ 32 → ((path : List ℕ) (t : Tree (OpaqueNodePtr K V P)) → IsSound path t → AllPairs (λ a b. text_order a b ≡ Less) (texts t)) → LiesBeside end (text key) (text_at text old sibling)
+    pub child-lies : length (text key) < 2 ^ 32 → ((path : List ℕ) (t : Tree (OpaqueNodePtr K V P)) → IsSound path t → AllPairs (λ a b. text_order a b ≡ Less) (texts t)) → IsOnSide end (text key) (text_at text old sibling)
     child-lies short ascend = lies text old root around_it node_there gap-there.before gap-there.after alone-there leaves-there end sibling beside lacks.prefix byte (text key) gap-there.place lacks.leads (omega (arith, short)) ascend
 
   abbrev pub node-is : InnerNode (OpaqueNodePtr K V P)
@@ -102,7 +102,7 @@ module _ {K V : Type 0} {P : ℕ} {text : K → List ℕ} {old : NodeArena K V P
         let same = one-inner (held linked spot.node) node-is node is-linked is in
         ap (λ n. child_at n.children byte) (sym same) ∙ ap (λ children. child_at children byte) shown-there.children ∙ lacks.absent
 
-    pub linked-full : {full : Bool} → TellsFull old spot.node full → TellsFull linked spot.node full
+    pub linked-full : {full : Bool} → WhetherFull old spot.node full → WhetherFull linked spot.node full
     linked-full {full = full} tells node is = subst (λ n. (IsTrue full ↔ (length n.children ≡ most_children (node_kind spot.node))) × (length n.children ≤ most_children (node_kind spot.node))) (one-inner (held linked spot.node) node-is node is-linked is) (tells node-is is-there)
 
     pub linked-room : HasRoomToGrow old spot.node → SameOtherRoom old linked LeafKind → HasRoomToGrow linked spot.node
@@ -145,9 +145,9 @@ module _ {K V : Type 0} {P : ℕ} {text : K → List ℕ} {old : NodeArena K V P
             | inr moved ↦ moved.replaced.kind ∙ ap grown_kind kind ∙ sym (kind-grows n (moved.full ∙ ap most_children kind) few) ∙ ap (λ m. kind_for (m + 1)) count
           ]
 
-      pub child-taken : (last : NodeArena K V P) (root_now : OpaqueNodePtr K V P) (hung : IsHung new last (above around_it) top root root_now) (short : length (text key) < 2 ^ 32) (spelled : Spells linked (keys_of (leaves_before around_it ++ branch_leaves gap-there.before) ++ opaque_key leaf ∷ keys_of (branch_leaves gap-there.after ++ leaves_after around_it)))
-          → HasTaken text old linked new around_it node_there root leaf top key value child-steps last root_now hung lacks.prefix gap-there.before gap-there.after byte
-      child-taken last root_now hung short spelled = record {
+      pub child-taken : (last : NodeArena K V P) (root_now : OpaqueNodePtr K V P) (child_or_root : IsChildOrRoot new last (above around_it) top root root_now) (short : length (text key) < 2 ^ 32) (is_linked : IsLinkedList linked (keys_of (leaves_before around_it ++ branch_leaves gap-there.before) ++ opaque_key leaf ∷ keys_of (branch_leaves gap-there.after ++ leaves_after around_it)))
+          → HasTaken text old linked new around_it node_there root leaf top key value child-steps last root_now child_or_root lacks.prefix gap-there.before gap-there.after byte
+      child-taken last root_now child_or_root short is_linked = record {
         place = gap-there.place;
         leads = lacks.leads;
         short = short;
@@ -161,11 +161,11 @@ module _ {K V : Type 0} {P : ℕ} {text : K → List ℕ} {old : NodeArena K V P
         stand_before = kept-branches text old last gap-there.before (parts-stand).0 (λ q inside. kept q (Contains-append_left (branch_places gap-there.before) (branch_places gap-there.after) q inside));
         stand_after = kept-branches text old last gap-there.after (parts-stand).1 (λ q inside. kept q (Contains-append_right (branch_places gap-there.before) (branch_places gap-there.after) q inside));
         same_leaves = leaves-there;
-        spelled = spelled;
+        is_linked = is_linked;
         gone = λ p inside. elim (Contains-append_cases (spot.node ∷ []) (branch_places lacks.branches) p inside) [
           | inl here ↦ elim more [
             | inl written ↦ inl (in-taken lacks.prefix top gap-there.before byte leaf (text key) gap-there.after p (inl (sym (the_one spot.node p here) ∙ sym written.same)))
-            | inr moved ↦ inr (last-others text old linked new around_it node_there root leaf top key value child-steps last root_now hung p inside ∙ ap (held new) (sym (the_one spot.node p here)) ∙ moved.replaced.is_free)
+            | inr moved ↦ inr (last-others text old linked new around_it node_there root leaf top key value child-steps last root_now child_or_root p inside ∙ ap (held new) (sym (the_one spot.node p here)) ∙ moved.replaced.is_free)
           ]
           | inr below ↦ inl (in-taken lacks.prefix top gap-there.before byte leaf (text key) gap-there.after p (inr (inr (subst (λ b. Contains (branch_places b) p) (sym gap-there.same) below))))
         ];
@@ -178,7 +178,7 @@ module _ {K V : Type 0} {P : ℕ} {text : K → List ℕ} {old : NodeArena K V P
           kept : (q : OpaqueNodePtr K V P) → Contains (branch_places gap-there.before ++ branch_places gap-there.after) q → KeepsAt old last q
           kept q inside =
               let below : Contains (branch_places lacks.branches) q = subst (λ b. Contains (branch_places b) q) gap-there.same (subst (λ all. Contains all q) (sym (places-join gap-there.before gap-there.after)) inside) in
-              below-kept text old linked new around_it node_there root leaf top key value child-steps last root_now hung q (Contains-append_right (spot.node ∷ []) (branch_places lacks.branches) q below)
+              below-kept text old linked new around_it node_there root leaf top key value child-steps last root_now child_or_root q (Contains-append_right (spot.node ∷ []) (branch_places lacks.branches) q below)
               (All-contains (λ other. other ≢ spot.node) (branch_places lacks.branches) q (distinct-part around_it node_there distinct).0 below)
 
 -- an inner node has a child more, whatever node it is
@@ -212,23 +212,23 @@ module _ {K V : Type 0} {P : ℕ} {text : K → List ℕ} {old : NodeArena K V P
   abbrev steps-there : AreSteps text old linked new context part root leaf top key value
   steps-there = child-steps child_spot linked leaf free stays new top value entry distinct-there more-there
 
-  pub child-hangs : CanHang new spot.parent spot.node
-  child-hangs = subst (λ above. CanHang new above spot.node) child_spot.lacks.at.hangs (can-hang text old linked new context part root leaf top key value steps-there)
+  pub child-has_child : HasChildUnder new spot.parent spot.node
+  child-has_child = subst (λ above. HasChildUnder new above spot.node) child_spot.lacks.at.parent_is (has-child_under text old linked new context part root leaf top key value steps-there)
 
-  module _ (last : NodeArena K V P) (root_now : OpaqueNodePtr K V P) (hung : IsHung new last spot.parent top root root_now) (short : length (text key) < 2 ^ 32) (end : End) (sibling : ℕ) (beside : StandsBeside end (branch_leaves there.before) (branch_leaves there.after) (opaque_pointer LeafKind sibling))
-      (spells : (left right : List ℕ) → Spells old (left ++ right) → IsBeside end left right sibling → Spells linked (left ++ opaque_key leaf ∷ right)) where
-    hung-there : IsHung new last (above context) top root root_now
-    hung-there = subst (λ parent. IsHung new last parent top root root_now) (sym child_spot.lacks.at.hangs) hung
+  module _ (last : NodeArena K V P) (root_now : OpaqueNodePtr K V P) (child_or_root : IsChildOrRoot new last spot.parent top root root_now) (short : length (text key) < 2 ^ 32) (end : End) (sibling : ℕ) (beside : IsLeafBeside end (branch_leaves there.before) (branch_leaves there.after) (opaque_pointer LeafKind sibling))
+      (is_list : (left right : List ℕ) → IsLinkedList old (left ++ right) → IsBeside end left right sibling → IsLinkedList linked (left ++ opaque_key leaf ∷ right)) where
+    child_or_root-there : IsChildOrRoot new last (above context) top root root_now
+    child_or_root-there = subst (λ parent. IsChildOrRoot new last parent top root root_now) (sym child_spot.lacks.at.parent_is) child_or_root
 
-    spelled-there : Spells linked (keys_of (leaves_before context ++ branch_leaves there.before) ++ opaque_key leaf ∷ keys_of (branch_leaves there.after ++ leaves_after context))
-    spelled-there =
+    list-there : IsLinkedList linked (keys_of (leaves_before context ++ branch_leaves there.before) ++ opaque_key leaf ∷ keys_of (branch_leaves there.after ++ leaves_after context))
+    list-there =
         let same = leaves-there child_spot in
-        spells _ _ (spelled-parts text old root context part there.before there.after whole-alone same) (beside-key text old root context part there.before there.after whole-alone same end sibling beside)
+        is_list _ _ (list-parts text old root context part there.before there.after whole-alone same) (beside-key text old root context part there.before there.after whole-alone same end sibling beside)
 
-    taken-there : HasTaken text old linked new context part root leaf top key value steps-there last root_now hung-there prefix there.before there.after byte
-    taken-there = child-taken child_spot linked leaf free stays new top value entry distinct-there more-there last root_now hung-there short spelled-there
+    taken-there : HasTaken text old linked new context part root leaf top key value steps-there last root_now child_or_root-there prefix there.before there.after byte
+    taken-there = child-taken child_spot linked leaf free stays new top value entry distinct-there more-there last root_now child_or_root-there short list-there
 
     -- the tree has the leaf, and its entries that of the leaf
     pub child-added : ((path : List ℕ) (t : Tree (OpaqueNodePtr K V P)) → IsSound path t → AreApart (texts t)) → IsArt text last (Some root_now) × IsEntered text old last key value × HoldsEntry last leaf key value
     child-added =
-        tree-added text old linked new context part root leaf top key value steps-there last root_now hung-there prefix there.before there.after byte taken-there whole-alone
+        tree-added text old linked new context part root leaf top key value steps-there last root_now child_or_root-there prefix there.before there.after byte taken-there whole-alone

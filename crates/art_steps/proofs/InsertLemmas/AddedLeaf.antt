@@ -1,6 +1,6 @@
 -- Insertion: a tree with one leaf more, after the steps of an insert.
-use Rattle.art_steps.proofs.Names.{◌≡◌, ◌≢◌, ◌⊎◌, ◌∙◌, ℕ, ◌<◌, ◌^◌, List, [], ◌∷◌, ◌++◌, length, map, All, Contains, Some, refl, sym, ap, subst, inl, inr, arith, append_assoc, map-append, All-append, All-cons, IsPrefixOf, opaque_key, opaque_pointer, OpaqueNodePtr, LeafNode, NodeArena, HeldInner, HeldLeaf, Nothing, held, held_leaf, SameNodes, AreDistinct, Spells, leaf_at, NodeStands, StandsIn, AllStandIn, Tree, Leaf, Branches, Branch, leaves, branch_leaves, texts, branch_texts, places, root_of, IsSound, IsWellFormed, IsAlone, IsArt, Context, plug, path_to, leaves_before, leaves_after, parent, KeepsAt, IsExchanged, join, entry_at, HoldsEntry, StaysAt, CanHang, IsHung, IsEntered, HasSmallestKinds, leaf_pointers, above, all_left, all_right, LeafKind, InnerNode}
-use Rattle.art_steps.proofs.SharedLemmas.ChangedTree.{HangsAt, IsAbove, can-hang-at, hangs-at, held-on, keeps-on, leaf-no-parent, parent-above, place-held, root-place, was-leaf}
+use Rattle.art_steps.proofs.Names.{◌≡◌, ◌≢◌, ◌⊎◌, ◌∙◌, ℕ, ◌<◌, ◌^◌, List, [], ◌∷◌, ◌++◌, length, map, All, Contains, Some, refl, sym, ap, subst, inl, inr, arith, append_assoc, map-append, All-append, All-cons, IsPrefixOf, opaque_key, opaque_pointer, OpaqueNodePtr, LeafNode, NodeArena, HeldInner, HeldLeaf, Nothing, held, held_leaf, SameNodes, AreDistinct, IsLinkedList, leaf_at, NodeStands, StandsIn, AllStandIn, Tree, Leaf, Branches, Branch, leaves, branch_leaves, texts, branch_texts, places, root_of, IsSound, IsWellFormed, IsAlone, IsArt, Context, plug, path_to, leaves_before, leaves_after, parent, KeepsAt, IsExchanged, join, entry_at, HoldsEntry, StaysAt, HasChildUnder, IsChildOrRoot, IsEntered, HasSmallestKinds, leaf_pointers, above, all_left, all_right, LeafKind, InnerNode}
+use Rattle.art_steps.proofs.SharedLemmas.ChangedTree.{IsAbove, IsPutAt, has-child_under-at, held-on, is-put-at, keeps-on, leaf-no-parent, parent-above, place-held, root-place, was-leaf}
 use Rattle.art_steps.proofs.SharedLemmas.DictionaryLemmas.{AreApart, held-entry, leaf-held-in}
 use Rattle.art_steps.proofs.SharedLemmas.ExchangedSubtree.{in-part, leaves-plug}
 use Rattle.art_steps.proofs.SharedLemmas.ExchangedTree.{alone-grown, entries-but, entries-stay, leaf-stays, leaf-was, texts-part}
@@ -8,7 +8,7 @@ use Rattle.art_steps.proofs.InsertLemmas.NodeLemmas.{some-inner, some-leaf}
 use Rattle.art_steps.proofs.InsertLemmas.SubtreeLemmas.{in-taken, leaves-taken, taken-sound, HasPlace, with_leaf}
 use Rattle.art_steps.proofs.SharedLemmas.BranchLemmas.{stand-join}
 use Rattle.art_links.proofs.HeldNodes.{cases_pointer, leaf-of}
-use Rattle.art_steps.proofs.SharedLemmas.SpelledLists.{spells-on}
+use Rattle.art_steps.proofs.SharedLemmas.KeptLists.{list-on}
 
 -- the leaves of the whole, where those of the part are on both sides of a gap, and with a leaf in the gap
 pub leaves-parted : {H : Type 0} (context : Context H) (part : Tree H) (before after : Branches H) → leaves part ≡ branch_leaves before ++ branch_leaves after → leaves (plug context part) ≡ (leaves_before context ++ branch_leaves before) ++ (branch_leaves after ++ leaves_after context)
@@ -74,20 +74,20 @@ module _ {K V : Type 0} {P : ℕ} (text : K → List ℕ) (old linked new : Node
         let other : p ≢ root_of part = λ same. at.outside (subst (Contains (places part)) (sym same) (root-place part)) in
         steps.same p (not-top p was other) (λ same. absurd (other same)) ∙ (steps.stays p (not-leaf p was)).keeps.inner at.node at.is ∙ sym at.is
 
-    pub can-hang : CanHang new (above context) (root_of part)
-    can-hang = can-hang-at text old new context part steps.stood steps.sound parent-kept
+    pub has-child_under : HasChildUnder new (above context) (root_of part)
+    has-child_under = has-child_under-at text old new context part steps.stood steps.sound parent-kept
 
-    module _ (last : NodeArena K V P) (root_now : OpaqueNodePtr K V P) (hung : IsHung new last (above context) top root root_now) where
-      hangs : HangsAt old new last context top root_now part
-      hangs = hangs-at text old new last context part top root root_now steps.stood steps.was_root parent-kept hung
+    module _ (last : NodeArena K V P) (root_now : OpaqueNodePtr K V P) (child_or_root : IsChildOrRoot new last (above context) top root root_now) where
+      is_put : IsPutAt old new last context top root_now part
+      is_put = is-put-at text old new last context part top root root_now steps.stood steps.was_root parent-kept child_or_root
 
       -- what is held outside of the place, or is a leaf, is kept to the end
       last-same : (p : OpaqueNodePtr K V P) → p ≢ top → (p ≡ root_of part → (l : LeafNode K V P) × (held linked p ≡ HeldLeaf l)) → parent context ≢ Some p → held last p ≡ held linked p
-      last-same p other leaf_there away = hangs.others p away ∙ steps.same p other leaf_there
+      last-same p other leaf_there away = is_put.others p away ∙ steps.same p other leaf_there
 
       -- what is in the old part is as the change of the node left it
       pub last-others : (p : OpaqueNodePtr K V P) → Contains (places part) p → held last p ≡ held new p
-      last-others p inside = hangs.others p (not-parent p inside)
+      last-others p inside = is_put.others p (not-parent p inside)
 
       pub others-kept : (p : OpaqueNodePtr K V P) → held old p ≢ Nothing → p ≢ root_of part → parent context ≢ Some p → KeepsAt old last p
       others-kept p was other away = keeps-on old linked last p (steps.stays p (not-leaf p was)) (last-same p (not-top p was other) (λ same. absurd (other same)) away)
@@ -119,7 +119,7 @@ module _ {K V : Type 0} {P : ℕ} (text : K → List ℕ) (old linked new : Node
       leaf-last = last-same leaf new-not-top (λ same. absurd (part-root (ap (held old) (sym same) ∙ steps.free))) (λ is. parent-held leaf is steps.free) ∙ steps.entry.is_held
 
       pub top-last : held last top ≡ held new top
-      top-last = hangs.others top (λ is. elim steps.top_was [
+      top-last = is_put.others top (λ is. elim steps.top_was [
         | inl at ↦ not-parent top (subst (Contains (places part)) (sym at.0) (root-place part)) is
         | inr free ↦ held-on old linked top (steps.stays top (not-leaf top (parent-held top is))) (parent-held top is) free
       ])
@@ -133,7 +133,7 @@ module _ {K V : Type 0} {P : ℕ} (text : K → List ℕ) (old linked new : Node
         ]
       ]
 
-      -- lists of leaves are spelled on to the end
+      -- lists of leaves stay linked to the end
       leaf-at-last : (k : ℕ) (l : LeafNode K V P) → leaf_at linked k ≡ Some l → leaf_at last k ≡ Some l
       leaf-at-last k l at = leaf-of (leaf_at last k) l (elim (cases_pointer (opaque_pointer LeafKind k) leaf) [
         | inl same ↦
@@ -160,7 +160,7 @@ module _ {K V : Type 0} {P : ℕ} (text : K → List ℕ) (old linked new : Node
           pub stand_before : AllStandIn text last before
           pub stand_after : AllStandIn text last after
           pub same_leaves : leaves part ≡ branch_leaves before ++ branch_leaves after
-          pub spelled : Spells linked (map opaque_key (map (λ l. l.0) (leaves_before context ++ branch_leaves before)) ++ opaque_key leaf ∷ map opaque_key (map (λ l. l.0) (branch_leaves after ++ leaves_after context)))
+          pub is_linked : IsLinkedList linked (map opaque_key (map (λ l. l.0) (leaves_before context ++ branch_leaves before)) ++ opaque_key leaf ∷ map opaque_key (map (λ l. l.0) (branch_leaves after ++ leaves_after context)))
           pub gone : (p : OpaqueNodePtr K V P) → Contains (places part) p → Contains (places (with_leaf top prefix before byte leaf (text key) after)) p ⊎ (held last p ≡ Nothing)
           pub smallest_kinds : HasSmallestKinds (with_leaf top prefix before byte leaf (text key) after)
 
@@ -192,7 +192,7 @@ module _ {K V : Type 0} {P : ℕ} (text : K → List ℕ) (old linked new : Node
           exchanged = record {
             stood = steps.stood;
             stands = taken-stands;
-            adopted = hangs.adopted;
+            adopted = is_put.adopted;
             others = λ p inside outside away. others-kept p (place-held text old (plug context part) steps.stood p inside) (λ same. outside (subst (Contains (places part)) (sym same) (root-place part))) away;
           }
 
@@ -202,10 +202,10 @@ module _ {K V : Type 0} {P : ℕ} (text : K → List ℕ) (old linked new : Node
               (taken-sound (path_to context) prefix top before byte leaf (text key) after has.place has.leads (omega (arith, has.short)))
               has.smallest_kinds
               (texts-filled (λ x. length x < 2 ^ 32) part prefix top before byte leaf (text key) after has.same_leaves (texts-part (λ x. length x < 2 ^ 32) context part alone.short) has.short)
-              (subst (Spells last) (sym keys-now) (spells-on linked last leaf-at-last _ has.spelled))
+              (subst (IsLinkedList last) (sym keys-now) (list-on linked last leaf-at-last _ has.is_linked))
               (λ p is free. in-taken prefix top before byte leaf (text key) after p (elim (fresh-last p is free) [ inl at ↦ inl at | inr new ↦ inr (inl new) ]))
               has.gone in
-              subst (λ r. IsAlone text last r (plug context taken)) (hangs.at_root taken refl) whole
+              subst (λ r. IsAlone text last r (plug context taken)) (is_put.at_root taken refl) whole
 
           added-entered : (alone : IsAlone text old root (plug context part)) → AreApart (texts (plug context part)) → AreApart (texts (plug context taken)) → IsEntered text old last key value
           added-entered alone apart new_apart =

@@ -1,5 +1,5 @@
 -- Insertion: the gap among the leaves for the new one.
-use Rattle.art_steps.proofs.Names.{◌≡◌, ◌∙◌, ℕ, ◌<◌, ◌^◌, List, [], ◌∷◌, ◌++◌, length, map, AllPairs, Contains, refl, sym, ap, subst, arith, append_assoc, Less, map-append, Contains-append_left, Contains-append_right, IsPrefixOf, text_order, leaf_key, opaque_key, opaque_pointer, OpaqueNodePtr, NodeArena, HeldLeaf, held, Spells, text_at, Tree, Branches, leaves, branch_leaves, texts, IsSound, IsWellFormed, IsAlone, Context, plug, path_to, leaves_before, leaves_after, HasGap, IsBeside, LiesBeside, StandsBeside, End, First, Last, LeafKind}
+use Rattle.art_steps.proofs.Names.{◌≡◌, ◌∙◌, ℕ, ◌<◌, ◌^◌, List, [], ◌∷◌, ◌++◌, length, map, AllPairs, Contains, refl, sym, ap, subst, arith, append_assoc, Less, map-append, Contains-append_left, Contains-append_right, IsPrefixOf, text_order, leaf_key, opaque_key, opaque_pointer, OpaqueNodePtr, NodeArena, HeldLeaf, held, IsLinkedList, text_at, Tree, Branches, leaves, branch_leaves, texts, IsSound, IsWellFormed, IsAlone, Context, plug, path_to, leaves_before, leaves_after, HasGap, IsBeside, IsOnSide, IsLeafBeside, End, First, Last, LeafKind}
 use Rattle.art_steps.proofs.InsertLemmas.AddedLeaf.{leaves-parted, leaves-filled}
 use Rattle.art_steps.proofs.SharedLemmas.DictionaryLemmas.{leaf-held-in}
 use Rattle.art_steps.proofs.SharedLemmas.ExchangedSubtree.{sound-whole}
@@ -35,10 +35,10 @@ module _ {K V : Type 0} {P : ℕ} (text : K → List ℕ) (arena : NodeArena K V
   abbrev right : List (OpaqueNodePtr K V P × List ℕ)
   right = branch_leaves after ++ leaves_after context
 
-  pub spelled-parts : Spells arena (keys_of left ++ keys_of right)
-  spelled-parts = subst (Spells arena) (ap keys_of (leaves-parted context part before after same_leaves) ∙ keys-append left right) alone.spelled
+  pub list-parts : IsLinkedList arena (keys_of left ++ keys_of right)
+  list-parts = subst (IsLinkedList arena) (ap keys_of (leaves-parted context part before after same_leaves) ∙ keys-append left right) alone.is_linked
 
-  module _ (end : End) (key : ℕ) (beside : StandsBeside end (branch_leaves before) (branch_leaves after) (opaque_pointer LeafKind key)) where
+  module _ (end : End) (key : ℕ) (beside : IsLeafBeside end (branch_leaves before) (branch_leaves after) (opaque_pointer LeafKind key)) where
     wide : IsBeside end left right (opaque_pointer LeafKind key, beside.0)
     wide = beside-wide end (leaves_before context) (branch_leaves before) (branch_leaves after) (leaves_after context) (opaque_pointer LeafKind key, beside.0) beside.1
 
@@ -46,7 +46,7 @@ module _ {K V : Type 0} {P : ℕ} (text : K → List ℕ) (arena : NodeArena K V
     beside-key = keys-beside end left right (opaque_pointer LeafKind key) beside.0 wide
 
     pub gap : HasGap arena end key
-    gap = record { left = keys_of left; right = keys_of right; spelled = spelled-parts; beside = beside-key }
+    gap = record { left = keys_of left; right = keys_of right; is_linked = list-parts; beside = beside-key }
 
     -- the leaf there is held, and a new text lies on its side
     pub sibling : (leaf : _) × (held arena (opaque_pointer LeafKind key) ≡ HeldLeaf leaf) × (text (leaf_key leaf) ≡ beside.0)
@@ -56,9 +56,9 @@ module _ {K V : Type 0} {P : ℕ} (text : K → List ℕ) (arena : NodeArena K V
     sibling-text = text-held text arena key sibling.0 sibling.1 ∙ sibling.2
 
     pub lies : (prefix : List ℕ) (byte : ℕ) (x : List ℕ) → HasPlace (path_to context) prefix before byte after → IsPrefixOf ((path_to context ++ prefix) ++ byte ∷ []) x → length x < 2 ^ 64
-        → ((path : List ℕ) (tree : Tree (OpaqueNodePtr K V P)) → IsSound path tree → AllPairs (λ a b. text_order a b ≡ Less) (texts tree)) → LiesBeside end x (text_at text arena key)
+        → ((path : List ℕ) (tree : Tree (OpaqueNodePtr K V P)) → IsSound path tree → AllPairs (λ a b. text_order a b ≡ Less) (texts tree)) → IsOnSide end x (text_at text arena key)
     lies prefix byte x place leads short ascend =
         let now = with_leaf root prefix before byte root x after in
         let sound : IsWellFormed (plug context now) = sound-whole context part now alone.is_tree.sound (taken-sound (path_to context) prefix root before byte root x after place leads short) in
         let pairs = subst (λ all. AllPairs (λ a b. text_order a b ≡ Less) (map (λ leaf. leaf.1) all)) (leaves-filled context prefix root before byte root x after) (ascend [] (plug context now) sound) in
-        subst (LiesBeside end x) (sym sibling-text) (beside-less left right root x pairs end (opaque_pointer LeafKind key) beside.0 wide)
+        subst (IsOnSide end x) (sym sibling-text) (beside-less left right root x pairs end (opaque_pointer LeafKind key) beside.0 wide)

@@ -1,29 +1,29 @@
 -- Insertion: a leaf that is linked beside another one of a list.
-use Rattle.art_steps.proofs.Names.{◌≡◌, ◌≢◌, ◌∙◌, ℕ, List, [], ◌∷◌, ◌++◌, Some, None, sym, ap, subst, append_assoc, option_and_then, leaf_key, leaf_value, previous_key, next_key, node_kind, opaque_key, opaque_pointer, OpaqueNodePtr, LeafNode, NodeArena, HeldLeaf, Nothing, held, held_leaf, Changes, HoldsLeaf, IsKnit, IsUnlinked, SameButLinks, Spells, leaf_at, text_at, HasGap, HoldsEntry, IsBeside, StaysAt, LiesBeside, End, First, Last, leaf_kind, LeafKind, knit-member}
+use Rattle.art_steps.proofs.Names.{◌≡◌, ◌≢◌, ◌∙◌, ℕ, List, [], ◌∷◌, ◌++◌, Some, None, sym, ap, subst, append_assoc, option_and_then, leaf_key, leaf_value, previous_key, next_key, node_kind, opaque_key, opaque_pointer, OpaqueNodePtr, LeafNode, NodeArena, HeldLeaf, Nothing, held, held_leaf, Changes, HoldsLeaf, IsKnit, IsUnlinked, SameButLinks, IsLinkedList, leaf_at, text_at, HasGap, HoldsEntry, IsBeside, StaysAt, IsOnSide, End, First, Last, leaf_kind, LeafKind, knit-member}
 use Rattle.art_links.proofs.HeldNodes.{kept-at, leaf-of, text-held, text-kept}
-use Rattle.art_steps.proofs.SharedLemmas.SpelledLists.{AreKnit, Spells-kept}
+use Rattle.art_steps.proofs.SharedLemmas.KeptLists.{AreKnit, IsLinkedList-kept}
 use Rattle.art_steps.proofs.InsertLemmas.NodeLemmas.{some-leaf}
 
 module _ {K V : Type 0} {P : ℕ} where
   -- the leaf beside a gap is knit
   pub knit-beside : (arena : NodeArena K V P) (end : End) (key : ℕ) → AreKnit arena → HasGap arena end key → IsKnit arena key
-  knit-beside arena First key knit gap = knit gap.left gap.beside.0 key (subst (λ right. Spells arena (gap.left ++ right)) gap.beside.1 gap.spelled)
+  knit-beside arena First key knit gap = knit gap.left gap.beside.0 key (subst (λ right. IsLinkedList arena (gap.left ++ right)) gap.beside.1 gap.is_linked)
   knit-beside arena Last key knit gap =
-      knit gap.beside.0 gap.right key (subst (Spells arena) (ap (λ left. left ++ gap.right) gap.beside.1 ∙ append_assoc gap.beside.0 (key ∷ []) gap.right) gap.spelled)
+      knit gap.beside.0 gap.right key (subst (IsLinkedList arena) (ap (λ left. left ++ gap.right) gap.beside.1 ∙ append_assoc gap.beside.0 (key ∷ []) gap.right) gap.is_linked)
 
   -- a leaf linked before the first one right of a gap, and one linked after the last one left of it
-  pub spelled-before : (now new : NodeArena K V P) (this sibling : ℕ) (left right : List ℕ)
-      → ((front back : List ℕ) → Spells now (front ++ sibling ∷ back) → Spells new (front ++ this ∷ sibling ∷ back))
-      → Spells now (left ++ right) → IsBeside First left right sibling → Spells new (left ++ this ∷ right)
-  spelled-before now new this sibling left right links s beside =
-      subst (λ r. Spells new (left ++ this ∷ r)) (sym beside.1) (links left beside.0 (subst (λ r. Spells now (left ++ r)) beside.1 s))
+  pub list-with_before : (now new : NodeArena K V P) (this sibling : ℕ) (left right : List ℕ)
+      → ((front back : List ℕ) → IsLinkedList now (front ++ sibling ∷ back) → IsLinkedList new (front ++ this ∷ sibling ∷ back))
+      → IsLinkedList now (left ++ right) → IsBeside First left right sibling → IsLinkedList new (left ++ this ∷ right)
+  list-with_before now new this sibling left right links s beside =
+      subst (λ r. IsLinkedList new (left ++ this ∷ r)) (sym beside.1) (links left beside.0 (subst (λ r. IsLinkedList now (left ++ r)) beside.1 s))
 
-  pub spelled-after : (now new : NodeArena K V P) (this sibling : ℕ) (left right : List ℕ)
-      → ((front back : List ℕ) → Spells now (front ++ sibling ∷ back) → Spells new (front ++ sibling ∷ this ∷ back))
-      → Spells now (left ++ right) → IsBeside Last left right sibling → Spells new (left ++ this ∷ right)
-  spelled-after now new this sibling left right links s beside =
+  pub list-with_after : (now new : NodeArena K V P) (this sibling : ℕ) (left right : List ℕ)
+      → ((front back : List ℕ) → IsLinkedList now (front ++ sibling ∷ back) → IsLinkedList new (front ++ sibling ∷ this ∷ back))
+      → IsLinkedList now (left ++ right) → IsBeside Last left right sibling → IsLinkedList new (left ++ this ∷ right)
+  list-with_after now new this sibling left right links s beside =
       let joined : (rest : List ℕ) → left ++ rest ≡ beside.0 ++ sibling ∷ rest = λ rest. ap (λ l. l ++ rest) beside.1 ∙ append_assoc beside.0 (sibling ∷ []) rest in
-      subst (Spells new) (sym (joined (this ∷ right))) (links beside.0 right (subst (Spells now) (joined right) s))
+      subst (IsLinkedList new) (sym (joined (this ∷ right))) (links beside.0 right (subst (IsLinkedList now) (joined right) s))
 
 -- a new leaf is allocated, and then linked
 module _ {K V : Type 0} {P : ℕ} (old now : NodeArena K V P) (this : ℕ) (leaf : LeafNode K V P) (free : held old (opaque_pointer LeafKind this) ≡ Nothing) (changes : Changes old now (opaque_pointer LeafKind this) (HeldLeaf leaf)) where
@@ -39,9 +39,9 @@ module _ {K V : Type 0} {P : ℕ} (old now : NodeArena K V P) (this : ℕ) (leaf
     pub unlinked : IsUnlinked now this
     pub apart : this ≢ sibling
     pub knit : IsKnit now sibling
-    pub order : LiesBeside end (text_at text now this) (text_at text now sibling)
+    pub order : IsOnSide end (text_at text now this) (text_at text now sibling)
 
-  pub ready : (text : K → List ℕ) (key : K) → leaf_key leaf ≡ key → previous_key leaf ≡ None → next_key leaf ≡ None → (end : End) (sibling : ℕ) → HasGap old end sibling → LiesBeside end (text key) (text_at text old sibling) → IsReady text end sibling
+  pub ready : (text : K → List ℕ) (key : K) → leaf_key leaf ≡ key → previous_key leaf ≡ None → next_key leaf ≡ None → (end : End) (sibling : ℕ) → HasGap old end sibling → IsOnSide end (text key) (text_at text old sibling) → IsReady text end sibling
   ready text key is no_previous no_next end sibling gap order =
       let was = knit-beside old end sibling (knit-member old) gap in
       let own : text key ≡ text_at text now this = sym (text-held text now this leaf changes.changed ∙ ap text is) in
@@ -50,12 +50,12 @@ module _ {K V : Type 0} {P : ℕ} (old now : NodeArena K V P) (this : ℕ) (leaf
         held = some-leaf (held now (opaque_pointer LeafKind this)) leaf changes.changed;
         unlinked = (ap (option_and_then previous_key) new-at ∙ no_previous, ap (option_and_then next_key) new-at ∙ no_next);
         apart = λ same. was.held (ap (λ k. held old (opaque_pointer LeafKind k)) (sym same) ∙ free);
-        knit = knit-beside now end sibling (knit-member now) (record { left = gap.left; right = gap.right; spelled = Spells-kept old now kept _ gap.spelled; beside = gap.beside });
-        order = subst (λ x. LiesBeside end x (text_at text now sibling)) own (subst (LiesBeside end (text key)) other order);
+        knit = knit-beside now end sibling (knit-member now) (record { left = gap.left; right = gap.right; is_linked = IsLinkedList-kept old now kept _ gap.is_linked; beside = gap.beside });
+        order = subst (λ x. IsOnSide end x (text_at text now sibling)) own (subst (IsOnSide end (text key)) other order);
       }
 
-  pub still-spelled : (keys : List ℕ) → Spells old keys → Spells now keys
-  still-spelled keys s = Spells-kept old now kept keys s
+  pub still-list : (keys : List ℕ) → IsLinkedList old keys → IsLinkedList now keys
+  still-list keys s = IsLinkedList-kept old now kept keys s
 
   module _ (new : NodeArena K V P) (same : SameButLinks now new) where
     -- the new leaf has its entry

@@ -1,5 +1,5 @@
 -- Insertion: inner nodes with one child more, or with another prefix.
-use Rattle.art_steps.proofs.Names.{◌≡◌, ◌≢◌, ◌∙◌, ℕ, Bool, false, ◌<◌, ◌≤◌, List, [], ◌∷◌, length, Option, Some, None, IsNone, refl, sym, ap, subst, arith, false≢true, le-ltb, lt-ltb, option_map, option_map_or, Header, most_children, grown_kind, NodeType, child_at, IsAscending, key_bytes, header_of, node_with_child, leaf_key, node_kind, OpaqueNodePtr, LeafNode, length_absent, one-inner, NodeArena, Held, HeldInner, HeldLeaf, Nothing, held, held_header, room, HasRoomToGrow, IsMoved, TellsFull, two_children, IsReplaced}
+use Rattle.art_steps.proofs.Names.{◌≡◌, ◌≢◌, ◌∙◌, ℕ, Bool, false, ◌<◌, ◌≤◌, List, [], ◌∷◌, length, Option, Some, None, IsNone, refl, sym, ap, subst, arith, false≢true, le-ltb, lt-ltb, option_map, option_map_or, Header, most_children, grown_kind, NodeType, child_at, IsAscending, key_bytes, header_of, node_with_child, leaf_key, node_kind, OpaqueNodePtr, LeafNode, length_absent, one-inner, NodeArena, Held, HeldInner, HeldLeaf, Nothing, held, held_header, room, HasRoomToGrow, IsMoved, WhetherFull, two_children, IsReplaced}
 use Rattle.art_nodes.specs.Inner.{Inner}
 
 -- kinds with space for more and more children are apart
@@ -41,7 +41,7 @@ module _ {K V : Type 0} {P : ℕ} where
   header-held (HeldLeaf leaf) header e = absurd (cc)
 
   -- a node that is not full has space for a child more
-  pub not-full : (arena : NodeArena K V P) (pointer : OpaqueNodePtr K V P) {full : Bool} → TellsFull arena pointer full → full ≡ false → (node : Inner (OpaqueNodePtr K V P)) → held arena pointer ≡ HeldInner node → length node.children < most_children (node_kind pointer)
+  pub not-full : (arena : NodeArena K V P) (pointer : OpaqueNodePtr K V P) {full : Bool} → WhetherFull arena pointer full → full ≡ false → (node : Inner (OpaqueNodePtr K V P)) → held arena pointer ≡ HeldInner node → length node.children < most_children (node_kind pointer)
   not-full arena pointer tells untrue node is =
       let (all, most) = tells node is in
       let differ : length node.children ≢ most_children (node_kind pointer) = λ same. false≢true (sym untrue ∙ all.1 same) in

@@ -1,5 +1,5 @@
 -- Insertion: a part of a tree with one leaf more.
-use Rattle.art_steps.proofs.Names.{◌≡◌, ◌≢◌, ◌⊎◌, ◌∙◌, ℕ, zero, suc, ◌+◌, ◌-◌, ◌<◌, ◌≤◌, ◌^◌, true, ◌&&◌, nat_lt, if◌then◌else◌, List, [], ◌∷◌, ◌++◌, length, length-append, map, filter, take, drop, slice_get, AllPairs, Contains, Some, None, refl, sym, ap, subst, inl, inr, arith, append_assoc, append-nil, cases_lt, cases_eq, eq-eqb, le-ltb, lt-ltb, ne_eqb, drop_at, drop-drop, length-take-le, Contains-append_left, Contains-append_right, Contains-append_cases, filter_agree, slice_get_within, Less, IsPrefixOf, text_order, kind_for, IsAscending, IsAscendingFrom, key_bytes, child_at, with_child, node_kind, OpaqueNodePtr, Tree, Leaf, Inner, Branches, NoBranch, Branch, branch_roots, root_of, leaves, branch_leaves, places, branch_places, IsSound, AreSound, IsBeside, LiesBeside, two_children, branches_on, pairs_on, End, First, Last, HasSmallestKinds, HaveSmallestKinds, reach, join}
+use Rattle.art_steps.proofs.Names.{◌≡◌, ◌≢◌, ◌⊎◌, ◌∙◌, ℕ, zero, suc, ◌+◌, ◌-◌, ◌<◌, ◌≤◌, ◌^◌, true, ◌&&◌, nat_lt, if◌then◌else◌, List, [], ◌∷◌, ◌++◌, length, length-append, map, filter, take, drop, slice_get, AllPairs, Contains, Some, None, refl, sym, ap, subst, inl, inr, arith, append_assoc, append-nil, cases_lt, cases_eq, eq-eqb, le-ltb, lt-ltb, ne_eqb, drop_at, drop-drop, length-take-le, Contains-append_left, Contains-append_right, Contains-append_cases, filter_agree, slice_get_within, Less, IsPrefixOf, text_order, kind_for, IsAscending, IsAscendingFrom, key_bytes, child_at, with_child, node_kind, OpaqueNodePtr, Tree, Leaf, Inner, Branches, NoBranch, Branch, branch_roots, root_of, leaves, branch_leaves, places, branch_places, IsSound, AreSound, IsBeside, IsOnSide, two_children, branches_on, pairs_on, End, First, Last, HasSmallestKinds, HaveSmallestKinds, reach, join}
 use Rattle.std.proofs.Math.Bool.{and-true}
 use Rattle.art_steps.proofs.SharedLemmas.BranchLemmas.{roots-join, leaves-join, places-join, sound-join, one_branch, sound-split, smallest_kinds-join}
 use Rattle.art_steps.proofs.SharedLemmas.DictionaryLemmas.{after-first}
@@ -256,7 +256,7 @@ module _ {H : Type 0} (R : List ℕ → List ℕ → Type 0) where
   from-gap (y ∷ left) right pairs = from-gap left right (λ i j d before inside. pairs (suc i) (suc j) d (omega (arith, before)) (omega (arith, inside)))
 
 pub beside-less : {H : Type 0} (left right : List (H × List ℕ)) (leaf : H) (text : List ℕ) → AllPairs (λ a b. text_order a b ≡ Less) (map (λ pair. pair.1) (left ++ (leaf, text) ∷ right))
-    → (end : End) (p : H) (x : List ℕ) → IsBeside end left right (p, x) → LiesBeside end text x
+    → (end : End) (p : H) (x : List ℕ) → IsBeside end left right (p, x) → IsOnSide end text x
 beside-less left right leaf text ascend First p x (others, is) =
     after-first (λ a b. text_order a b ≡ Less) (leaf, text) right p x (from-gap (λ a b. text_order a b ≡ Less) left ((leaf, text) ∷ right) ascend) (subst (λ all. Contains all (p, x)) (sym is) (0, omega arith, refl))
 beside-less left right leaf text ascend Last p x (others, is) =

@@ -94,8 +94,8 @@ regroup a b c d = simp (append_assoc, append-nil)
 node-step : (text : List ℕ) (a b c d m n : ℕ) → a ≡ b → c ≡ d → m ≡ n → step.Inner (byte_before text a) a c m ≡ step.Inner (byte_before text b) b d n
 node-step text a b c d m n ab cd mn = ap (λ x. step.Inner (byte_before text x) x c m) ab ∙ ap (λ x. step.Inner (byte_before text b) b x m) cd ∙ ap (λ x. step.Inner (byte_before text b) b d x) mn
 
-hung : (xs ys : List Open) (a b m n : ℕ) → xs ≡ ys → a ≡ b → m ≡ n → xs ++ record { path = a; children = m } ∷ [] ≡ ys ++ record { path = b; children = n } ∷ []
-hung xs ys a b m n same ab mn = ap (λ z. z ++ record { path = a; children = m } ∷ []) same ∙ ap (λ x. ys ++ record { path = x; children = m } ∷ []) ab ∙ ap (λ x. ys ++ record { path = b; children = x } ∷ []) mn
+open-same : (xs ys : List Open) (a b m n : ℕ) → xs ≡ ys → a ≡ b → m ≡ n → xs ++ record { path = a; children = m } ∷ [] ≡ ys ++ record { path = b; children = n } ∷ []
+open-same xs ys a b m n same ab mn = ap (λ z. z ++ record { path = a; children = m } ∷ []) same ∙ ap (λ x. ys ++ record { path = x; children = m } ∷ []) ab ∙ ap (λ x. ys ++ record { path = b; children = x } ∷ []) mn
 
 some-opens : (frames : List Frame) → 0 < length (opens frames)
 some-opens [] = omega arith
@@ -238,8 +238,8 @@ module _ (texts : List (List ℕ)) (i : ℕ) (text : List ℕ) (is_text : text �
       last-steps tree m path = ap (λ n. steps_of (byte_before text n) n tree) path ∙ ap (λ b. steps_of b (at + 1) tree) (byte-last text at)
 
       -- the finished tree is the first child of a new open node
-      pub hang-new : (shared : ℕ) (top : Open) (xs : List Open) (steps : List Step) → shared ≡ at + 1 → top.path < shared → IsClosing texts i text shared top xs steps → IsPlanned texts (i + 1) (record { path = shared; children = 1 }) (xs ++ top ∷ []) steps
-      hang-new shared top xs steps at_fork lt c =
+      pub branch-new : (shared : ℕ) (top : Open) (xs : List Open) (steps : List Step) → shared ≡ at + 1 → top.path < shared → IsClosing texts i text shared top xs steps → IsPlanned texts (i + 1) (record { path = shared; children = 1 }) (xs ++ top ∷ []) steps
+      branch-new shared top xs steps at_fork lt c =
           let is_top = top-path c.frames xs top c.opened in
           let byte = get_or text at 0 in
           let m = max shared (top_path c.frames) in
@@ -263,8 +263,8 @@ module _ (texts : List (List ℕ)) (i : ℕ) (text : List ℕ) (is_text : text �
           }
 
       -- the finished tree is one more child of the last open node
-      pub hang-last : (shared : ℕ) (top : Open) (xs : List Open) (steps : List Step) → shared ≡ at + 1 → top.path ≡ shared → IsClosing texts i text shared top xs steps → IsPlanned texts (i + 1) (record { path = top.path; children = top.children + 1 }) xs steps
-      hang-last shared top xs steps at_fork same_path c = at_frames c.frames c.tree c.middle c.opened c.before c.spans c.are_open c.sound c.in_order
+      pub branch-last : (shared : ℕ) (top : Open) (xs : List Open) (steps : List Step) → shared ≡ at + 1 → top.path ≡ shared → IsClosing texts i text shared top xs steps → IsPlanned texts (i + 1) (record { path = top.path; children = top.children + 1 }) xs steps
+      branch-last shared top xs steps at_fork same_path c = at_frames c.frames c.tree c.middle c.opened c.before c.spans c.are_open c.sound c.in_order
         where
           at_frames : (frames : List Frame) (tree : Shape) (middle : ℕ) → xs ++ top ∷ [] ≡ opens frames → FramesSpan texts frames middle → Spans texts middle tree (i + 1) → AreOpen text frames → IsSound (take (max shared (top_path frames)) text) tree
               → steps ≡ frame_steps frames ++ steps_of (byte_before text (max shared (top_path frames))) (max shared (top_path frames)) tree
@@ -283,7 +283,7 @@ module _ (texts : List (List ℕ)) (i : ℕ) (text : List ℕ) (is_text : text �
               let count = count-one g.branches byte tree in
               record {
                 frames = f ∷ fs;
-                opened = hung xs (opens fs) top.path (g.end + 1) (top.children + 1) (length (branch_roots branches)) same.0 top_at (omega (arith, count, top_count));
+                opened = open-same xs (opens fs) top.path (g.end + 1) (top.children + 1) (length (branch_roots branches)) same.0 top_at (omega (arith, count, top_count));
                 spans = (before.0, before.1, span-join texts before.0 middle (i + 1) g.branches (one_branch byte tree) before.2 (i + 1, spans, refl));
                 are_open = subst (λ t. AreOpen t (f ∷ fs)) is_next (
                   record {

@@ -1,5 +1,5 @@
 -- The child of a node that is next to a byte which has none, and the leaf beside the byte's place.
-use Rattle.art_steps.proofs.Names.{◌≡◌, ◌∙◌, ℕ, List, [], ◌∷◌, ◌++◌, length, length-append, sym, ap, arith, ChildMap, OpaqueNodePtr, NodeArena, HeldInner, held, IsAtEnd, put_at, AllStandIn, TreeAt, Branches, branch_leaves, branch_roots, leaves, AreSound, End, First, Last, join, HasPlaceAt, IsChildBeside, StandsBeside, branches_on, pairs_on}
+use Rattle.art_steps.proofs.Names.{◌≡◌, ◌∙◌, ℕ, List, [], ◌∷◌, ◌++◌, length, length-append, sym, ap, arith, ChildMap, OpaqueNodePtr, NodeArena, HeldInner, held, IsAtEnd, put_at, AllStandIn, TreeAt, Branches, branch_leaves, branch_roots, leaves, AreSound, End, First, Last, join, HasGapUnder, IsChildBeside, IsLeafBeside, branches_on, pairs_on}
 use Rattle.art_nodes.specs.Inner.{Inner}
 use Rattle.art_steps.proofs.SharedLemmas.BranchLemmas.{roots-join, stand-split, sound-split}
 use Rattle.art_steps.proofs.SharedLemmas.EndBranches.{IsEndBranch, end-branch, end-leaves, end-sound, end-stands}
@@ -11,11 +11,11 @@ module _ {H : Type 0} where
   side-sound Last path before after sound = (sound-split path before after sound).0
 
   -- the leaf at the near end of one side is beside the place
-  side-beside : (end : End) (before after : Branches H) (leaf : H) → IsAtEnd end (branch_leaves (branches_on end before after)) leaf → StandsBeside end (branch_leaves before) (branch_leaves after) leaf
+  side-beside : (end : End) (before after : Branches H) (leaf : H) → IsAtEnd end (branch_leaves (branches_on end before after)) leaf → IsLeafBeside end (branch_leaves before) (branch_leaves after) leaf
   side-beside First before after leaf (x, others, is) = (x, (others, is))
   side-beside Last before after leaf (x, others, is) = (x, (others, is))
 
-module _ {K V : Type 0} {P : ℕ} (text : K → List ℕ) (arena : NodeArena K V P) (pointer : OpaqueNodePtr K V P) (byte : ℕ) (place : HasPlaceAt text arena pointer byte) where
+module _ {K V : Type 0} {P : ℕ} (text : K → List ℕ) (arena : NodeArena K V P) (pointer : OpaqueNodePtr K V P) (byte : ℕ) (place : HasGapUnder text arena pointer byte) where
   pub side-stands : (end : End) → AllStandIn text arena (join place.before place.after) → AllStandIn text arena (branches_on end place.before place.after)
   side-stands First stand = (stand-split text arena place.before place.after stand).1
   side-stands Last stand = (stand-split text arena place.before place.after stand).0
@@ -58,5 +58,5 @@ module _ {K V : Type 0} {P : ℕ} (text : K → List ℕ) (arena : NodeArena K V
     }
 
     -- and the leaf at its near end is beside the place
-    pub leaf-beside : (leaf : OpaqueNodePtr K V P) → IsAtEnd end (leaves tree-beside.tree) leaf → StandsBeside end (branch_leaves place.before) (branch_leaves place.after) leaf
+    pub leaf-beside : (leaf : OpaqueNodePtr K V P) → IsAtEnd end (leaves tree-beside.tree) leaf → IsLeafBeside end (branch_leaves place.before) (branch_leaves place.after) leaf
     leaf-beside leaf at_end = side-beside end place.before place.after leaf (end-leaves end side found.0 child branch leaf at_end)

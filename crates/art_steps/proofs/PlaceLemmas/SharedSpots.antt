@@ -25,7 +25,7 @@ module _ {K V : Type 0} {P : ℕ} (text : K → List ℕ) (arena : NodeArena K V
   root-spot key root is = record {
     stands = is.stands;
     sound = is.sound;
-    at = record { context = Whole; part = tree; whole = refl; at_root = is.at_root; leads = (key, refl); deep = refl; hangs = refl };
+    at = record { context = Whole; part = tree; whole = refl; at_root = is.at_root; leads = (key, refl); deep = refl; parent_is = refl };
   }
 
   -- a key leads where another does by bytes that they have in common
@@ -40,6 +40,6 @@ module _ {K V : Type 0} {P : ℕ} (text : K → List ℕ) (arena : NodeArena K V
       at_root = is.at.at_root;
       leads = shared-prefix (path_to is.at.context) a b is.at.leads (omega (arith, is.at.deep, short));
       deep = is.at.deep;
-      hangs = is.at.hangs;
+      parent_is = is.at.parent_is;
     };
   }

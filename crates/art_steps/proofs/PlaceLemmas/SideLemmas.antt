@@ -1,5 +1,5 @@
 -- On which side of a key texts lie.
-use Rattle.art_steps.proofs.Names.{◌≡◌, ◌≢◌, ◌∙◌, ℕ, ◌<◌, Bool, true, false, List, [], ◌∷◌, ◌++◌, refl, sym, ap, subst, inl, inr, arith, nat_eq, append_assoc, append-nil, slice_cmp, starts_with, nat_cmp, ordering_then, Ordering, Less, Equal, Greater, eqb_tells, All-nil, All-cons, All-head, All-tail, All-append, IsPrefixOf, text_order, IsAtEnd, End, First, Last, IsProperPrefixOf, StandsBeside, comes_before, is_before, is_last, AreOn, IsNextTo, Side}
+use Rattle.art_steps.proofs.Names.{◌≡◌, ◌≢◌, ◌∙◌, ℕ, ◌<◌, Bool, true, false, List, [], ◌∷◌, ◌++◌, refl, sym, ap, subst, inl, inr, arith, nat_eq, append_assoc, append-nil, slice_cmp, starts_with, nat_cmp, ordering_then, Ordering, Less, Equal, Greater, eqb_tells, All-nil, All-cons, All-head, All-tail, All-append, IsPrefixOf, text_order, IsAtEnd, End, First, Last, IsProperPrefixOf, IsLeafBeside, comes_before, is_before, is_last, AreOn, IsBesideKey, Side}
 use Rattle.std.specs.Cmp.{nat_cmp_is}
 use Rattle.art_steps.specs.declared.place.Side.TheVariants.{Before, After, AfterBegun}
 
@@ -92,7 +92,7 @@ module _ {H : Type 0} (side : Side) (key : List ℕ) where
       (All-cons (IsOn true) x xs (All-head (IsOn true) x (xs ++ member ∷ []) all) rest.0, rest.1)
 
   -- where a side of the key is a gap between leaves, the leaf beside the gap is next to it
-  pub gap-next : (all left right : List (H × List ℕ)) (end : End) (pointer : H) → all ≡ left ++ right → AreOn side key true left → AreOn side key false right → StandsBeside end left right pointer → IsNextTo side key all end pointer
+  pub gap-next : (all left right : List (H × List ℕ)) (end : End) (pointer : H) → all ≡ left ++ right → AreOn side key true left → AreOn side key false right → IsLeafBeside end left right pointer → IsBesideKey side key all end pointer
   gap-next all left right First pointer is on_left on_right (text, (others, beside)) =
       let right_is = subst (AreOn side key false) beside on_right in
       record {
@@ -117,7 +117,7 @@ module _ {H : Type 0} (side : Side) (key : List ℕ) where
       }
 
   -- the same of the leaves of a part that all lie on one side, and of the end of them that is next to it
-  pub part-next : (all left part right : List (H × List ℕ)) (end : End) (pointer : H) → all ≡ left ++ (part ++ right) → AreOn side key true left → AreOn side key false right → AreOn side key (is_last end) part → IsAtEnd end part pointer → IsNextTo side key all end pointer
+  pub part-next : (all left part right : List (H × List ℕ)) (end : End) (pointer : H) → all ≡ left ++ (part ++ right) → AreOn side key true left → AreOn side key false right → AreOn side key (is_last end) part → IsAtEnd end part pointer → IsBesideKey side key all end pointer
   part-next all left part right First pointer is on_left on_right on_part (text, others, at_end) =
       gap-next all left (part ++ right) First pointer is on_left (All-append (IsOn false) part right on_part on_right) (text, (others ++ right, ap (λ more. more ++ right) at_end))
   part-next all left part right Last pointer is on_left on_right on_part (text, others, at_end) =

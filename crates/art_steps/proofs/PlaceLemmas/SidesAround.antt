@@ -1,5 +1,5 @@
 -- On which side of a key the leaves of a tree lie, by the key's place.
-use Rattle.art_steps.proofs.Names.{◌≡◌, ◌≢◌, ◌∙◌, ◌⊎◌, ℕ, suc, ◌<◌, ◌≤◌, true, false, nat_lt, if◌then◌else◌, List, [], ◌∷◌, ◌++◌, take, All, refl, sym, ap, subst, inl, inr, arith, Greater, cases_lt, le-ltb, lt-ltb, All-nil, All-cons, All-append, All-weaker, IsPrefixOf, prefix-on, prefix-shorter, ChildMap, IsAscendingFrom, key_bytes, OpaqueNodePtr, NodeArena, HeldLeaf, Nothing, held, IsAtEnd, StandsIn, Tree, Leaf, Inner, Branches, NoBranch, Branch, branch_roots, root_of, leaves, branch_leaves, IsSound, AreSound, IsWellFormed, End, First, Last, Context, Whole, Under, plug, path_to, leaves_before, leaves_after, join, HasPlaceAt, StandsBeside, branches_on, pairs_on, IsProperPrefixOf, reach, BeginsAll, IsSpot, IsSpotIn, LacksChild, LeadsToLeaf, Parts, comes_before, is_before, is_last, AreOn, IsNextTo, Mismatch, Side, Spot}
+use Rattle.art_steps.proofs.Names.{◌≡◌, ◌≢◌, ◌∙◌, ◌⊎◌, ℕ, suc, ◌<◌, ◌≤◌, true, false, nat_lt, if◌then◌else◌, List, [], ◌∷◌, ◌++◌, take, All, refl, sym, ap, subst, inl, inr, arith, Greater, cases_lt, le-ltb, lt-ltb, All-nil, All-cons, All-append, All-weaker, IsPrefixOf, prefix-on, prefix-shorter, ChildMap, IsAscendingFrom, key_bytes, OpaqueNodePtr, NodeArena, HeldLeaf, Nothing, held, IsAtEnd, StandsIn, Tree, Leaf, Inner, Branches, NoBranch, Branch, branch_roots, root_of, leaves, branch_leaves, IsSound, AreSound, IsWellFormed, End, First, Last, Context, Whole, Under, plug, path_to, leaves_before, leaves_after, join, HasGapUnder, IsLeafBeside, branches_on, pairs_on, IsProperPrefixOf, reach, BeginsAll, IsSpot, IsSpotIn, LacksChild, LeadsToLeaf, Parts, comes_before, is_before, is_last, AreOn, IsBesideKey, Mismatch, Side, Spot}
 use Rattle.art_steps.proofs.InsertLemmas.AddedLeaf.{leaves-parted}
 use Rattle.art_steps.proofs.InsertLemmas.GapLemmas.{beside-wide}
 use Rattle.art_steps.proofs.InsertLemmas.SubtreeLemmas.{HasChildPlace, child-place}
@@ -55,15 +55,15 @@ module _ {H : Type 0} where
       )
 
   -- where all leaves of the part lie on one side of the key, the end of them beside it is next to it
-  pub end-next : (side : Side) (context : Context H) (part : Tree H) (key : List ℕ) (end : End) (pointer : H) → IsWellFormed (plug context part) → IsPrefixOf (path_to context) key → AreOn side key (is_last end) (leaves part) → IsAtEnd end (leaves part) pointer → IsNextTo side key (leaves (plug context part)) end pointer
+  pub end-next : (side : Side) (context : Context H) (part : Tree H) (key : List ℕ) (end : End) (pointer : H) → IsWellFormed (plug context part) → IsPrefixOf (path_to context) key → AreOn side key (is_last end) (leaves part) → IsAtEnd end (leaves part) pointer → IsBesideKey side key (leaves (plug context part)) end pointer
   end-next side context part key end pointer sound leads on_part at_end =
       let around = around-part side context part key sound leads in
       part-next side key (leaves (plug context part)) (leaves_before context) (leaves part) (leaves_after context) end pointer (leaves-plug context part) around.0 around.1 on_part at_end
 
   -- so a leaf to which the key leads is next to it
-  pub leaf-next : (side : Side) (tree : Tree H) (key : List ℕ) (end : End) (pointer : H) (text : List ℕ) → IsWellFormed tree → LeadsToLeaf tree key pointer text → is_before side key text ≡ is_last end → IsNextTo side key (leaves tree) end pointer
+  pub leaf-next : (side : Side) (tree : Tree H) (key : List ℕ) (end : End) (pointer : H) (text : List ℕ) → IsWellFormed tree → LeadsToLeaf tree key pointer text → is_before side key text ≡ is_last end → IsBesideKey side key (leaves tree) end pointer
   leaf-next side tree key end pointer text sound at here =
-      subst (λ whole. IsNextTo side key (leaves whole) end pointer) at.whole
+      subst (λ whole. IsBesideKey side key (leaves whole) end pointer) at.whole
       (end-next side at.context (Leaf pointer text) key end pointer (subst IsWellFormed (sym at.whole) sound) at.leads
       (All-cons (λ leaf. is_before side key leaf.1 ≡ is_last end) (pointer, text) [] here (All-nil (λ leaf. is_before side key leaf.1 ≡ is_last end))) (one-leaf end))
     where
@@ -73,7 +73,7 @@ module _ {H : Type 0} where
 
   -- and so where there is a place for a byte of the key between the branches of a node, is the leaf beside that place
   pub branch-next : (side : Side) (context : Context H) (pointer : H) (prefix : List ℕ) (branches : Branches H) (byte : ℕ) (key : List ℕ) (place : HasChildPlace (path_to context) prefix branches byte) (end : End) (leaf : H) → IsWellFormed (plug context (Inner pointer prefix branches)) → IsPrefixOf ((path_to context ++ prefix) ++ byte ∷ []) key
-      → StandsBeside end (branch_leaves place.before) (branch_leaves place.after) leaf → IsNextTo side key (leaves (plug context (Inner pointer prefix branches))) end leaf
+      → IsLeafBeside end (branch_leaves place.before) (branch_leaves place.after) leaf → IsBesideKey side key (leaves (plug context (Inner pointer prefix branches))) end leaf
   branch-next side context pointer prefix branches byte key place end leaf sound leads (text, beside) =
       let front = path_to context ++ prefix in
       let node = Inner pointer prefix branches in
@@ -89,7 +89,7 @@ module _ {H : Type 0} where
 
 module _ {K V : Type 0} {P : ℕ} (text : K → List ℕ) (arena : NodeArena K V P) where
   -- the place for a byte, as the arena has it
-  abbrev pub byte-place : (pointer : OpaqueNodePtr K V P) (path prefix : List ℕ) (branches : Branches (OpaqueNodePtr K V P)) (byte : ℕ) (place : HasChildPlace path prefix branches byte) → StandsIn text arena (Inner pointer prefix branches) → IsSound path (Inner pointer prefix branches) → HasPlaceAt text arena pointer byte
+  abbrev pub byte-place : (pointer : OpaqueNodePtr K V P) (path prefix : List ℕ) (branches : Branches (OpaqueNodePtr K V P)) (byte : ℕ) (place : HasChildPlace path prefix branches byte) → StandsIn text arena (Inner pointer prefix branches) → IsSound path (Inner pointer prefix branches) → HasGapUnder text arena pointer byte
   byte-place pointer path prefix branches byte place stands sound =
       record {
         path = path;
@@ -113,18 +113,18 @@ module _ {K V : Type 0} {P : ℕ} (text : K → List ℕ) (arena : NodeArena K V
       abbrev pub spot-in : StandsIn text arena tree → IsWellFormed tree → IsSpot tree key spot → IsSpotIn text arena tree key spot
       spot-in stands sound at = record { stands = stands; sound = sound; at = at }
 
-      spot-next : (side : Side) (at : IsSpot tree key spot) (end : End) (leaf : OpaqueNodePtr K V P) → IsWellFormed tree → AreOn side key (is_last end) (leaves at.part) → IsAtEnd end (leaves at.part) leaf → IsNextTo side key (leaves tree) end leaf
+      spot-next : (side : Side) (at : IsSpot tree key spot) (end : End) (leaf : OpaqueNodePtr K V P) → IsWellFormed tree → AreOn side key (is_last end) (leaves at.part) → IsAtEnd end (leaves at.part) leaf → IsBesideKey side key (leaves tree) end leaf
       spot-next side at end leaf sound on_part at_end =
-          subst (λ whole. IsNextTo side key (leaves whole) end leaf) at.whole (end-next side at.context at.part key end leaf (subst IsWellFormed (sym at.whole) sound) at.leads on_part at_end)
+          subst (λ whole. IsBesideKey side key (leaves whole) end leaf) at.whole (end-next side at.context at.part key end leaf (subst IsWellFormed (sym at.whole) sound) at.leads on_part at_end)
 
       -- where the key begins all texts there
-      pub begins-next : (side : Side) (begins : BeginsAll tree key spot) (end : End) (leaf : OpaqueNodePtr K V P) → IsWellFormed tree → is_last end ≡ comes_before side Greater true → IsAtEnd end (leaves begins.at.part) leaf → IsNextTo side key (leaves tree) end leaf
+      pub begins-next : (side : Side) (begins : BeginsAll tree key spot) (end : End) (leaf : OpaqueNodePtr K V P) → IsWellFormed tree → is_last end ≡ comes_before side Greater true → IsAtEnd end (leaves begins.at.part) leaf → IsBesideKey side key (leaves tree) end leaf
       begins-next side begins end leaf sound is =
           spot-next side begins.at end leaf sound
           (All-weaker (λ leaf. IsProperPrefixOf key leaf.1) (λ leaf. is_before side key leaf.1 ≡ is_last end) (λ leaf longer. begun-side side leaf.1 key longer ∙ sym is) (leaves begins.at.part) begins.begins)
 
       -- where the key differs from all of them
-      pub differs-next : (side : Side) (mismatch : Mismatch) (parts : Parts tree key spot mismatch) (end : End) (leaf : OpaqueNodePtr K V P) → IsWellFormed tree → end ≡ (if nat_lt mismatch.byte mismatch.node_byte then First else Last) → IsAtEnd end (leaves parts.at.part) leaf → IsNextTo side key (leaves tree) end leaf
+      pub differs-next : (side : Side) (mismatch : Mismatch) (parts : Parts tree key spot mismatch) (end : End) (leaf : OpaqueNodePtr K V P) → IsWellFormed tree → end ≡ (if nat_lt mismatch.byte mismatch.node_byte then First else Last) → IsAtEnd end (leaves parts.at.part) leaf → IsBesideKey side key (leaves tree) end leaf
       differs-next side mismatch parts end leaf sound is = spot-next side parts.at end leaf sound (by_order (cases_lt mismatch.byte mismatch.node_byte))
         where
           front : List ℕ
@@ -164,10 +164,10 @@ module _ {K V : Type 0} {P : ℕ} (text : K → List ℕ) (arena : NodeArena K V
         pub byte-fits : HasChildPlace (path_to lacks.at.context) lacks.prefix lacks.branches byte
         byte-fits = child-place (path_to lacks.at.context) lacks.prefix spot.node lacks.branches byte node-sound fits lacks.absent
 
-        abbrev pub absent-place : HasPlaceAt text arena spot.node byte
+        abbrev pub absent-place : HasGapUnder text arena spot.node byte
         absent-place = byte-place spot.node (path_to lacks.at.context) lacks.prefix lacks.branches byte byte-fits (stands-part text arena arena lacks.at.context lacking (subst (StandsIn text arena) (sym whole-is) stands)) node-sound
 
-        pub absent-next : (side : Side) (end : End) (leaf : OpaqueNodePtr K V P) → StandsBeside end (branch_leaves absent-place.before) (branch_leaves absent-place.after) leaf → IsNextTo side key (leaves tree) end leaf
+        pub absent-next : (side : Side) (end : End) (leaf : OpaqueNodePtr K V P) → IsLeafBeside end (branch_leaves absent-place.before) (branch_leaves absent-place.after) leaf → IsBesideKey side key (leaves tree) end leaf
         absent-next side end leaf beside =
-            subst (λ whole. IsNextTo side key (leaves whole) end leaf) whole-is
+            subst (λ whole. IsBesideKey side key (leaves whole) end leaf) whole-is
             (branch-next side lacks.at.context spot.node lacks.prefix lacks.branches byte key byte-fits end leaf (subst IsWellFormed (sym whole-is) sound) lacks.leads beside)

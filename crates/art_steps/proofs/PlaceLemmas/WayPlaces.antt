@@ -279,7 +279,7 @@ module _ {K V : Type 0} {P : ℕ} {text : K → List ℕ} {arena : NodeArena K V
             at_root = split.at_root;
             leads = leads-on;
             deep = omega (arith, length-append front (next ∷ []), way-long is holds, whole);
-            hangs = refl;
+            parent_is = refl;
           };
         }
 

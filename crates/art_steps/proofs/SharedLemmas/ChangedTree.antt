@@ -1,5 +1,5 @@
 -- Insertion and removal: the tree and its arena after a change.
-use Rattle.art_steps.proofs.Names.{eq-eqb, ne_eqb, ◌≡◌, ◌≢◌, ◌⊎◌, ◌∙◌, ℕ, suc, List, [], ◌∷◌, ◌++◌, Contains, Some, refl, sym, ap, subst, inl, inr, arith, Contains-append_cases, ChildMap, IsAscending, IsAscendingFrom, child_at, key_bytes, OpaqueNodePtr, LeafNode, NodeArena, Held, HeldInner, HeldLeaf, Nothing, held, AreDistinct, StandsIn, AllStandIn, Tree, Leaf, Inner, Branches, NoBranch, Branch, places, branch_places, branch_roots, root_of, IsWellFormed, Context, Whole, Under, plug, parent, Adopts, KeepsAt, join, StaysAt, CanHang, IsHung, above, the_one, InnerNode}
+use Rattle.art_steps.proofs.Names.{eq-eqb, ne_eqb, ◌≡◌, ◌≢◌, ◌⊎◌, ◌∙◌, ℕ, suc, List, [], ◌∷◌, ◌++◌, Contains, Some, refl, sym, ap, subst, inl, inr, arith, Contains-append_cases, ChildMap, IsAscending, IsAscendingFrom, child_at, key_bytes, OpaqueNodePtr, LeafNode, NodeArena, Held, HeldInner, HeldLeaf, Nothing, held, AreDistinct, StandsIn, AllStandIn, Tree, Leaf, Inner, Branches, NoBranch, Branch, places, branch_places, branch_roots, root_of, IsWellFormed, Context, Whole, Under, plug, parent, Adopts, KeepsAt, join, StaysAt, HasChildUnder, IsChildOrRoot, above, the_one, InnerNode}
 use Rattle.art_steps.proofs.SharedLemmas.BranchLemmas.{roots-join}
 use Rattle.art_steps.proofs.SharedLemmas.ExchangedSubtree.{around, before-byte, sound-part, stands-part}
 use Rattle.art_steps.proofs.SharedLemmas.ExchangedTree.{root-under}
@@ -50,16 +50,16 @@ module _ {K V : Type 0} {P : ℕ} where
       let at = parent-above text arena context part stands distinct p above_it in
       let wrong : HeldLeaf l ≡ HeldInner at.node = sym is ∙ at.is in absurd (cc)
 
-  -- what hanging a node in the place of a subtree leaves
-  pub record HangsAt (old new last : NodeArena K V P) (context : Context (OpaqueNodePtr K V P)) (top root : OpaqueNodePtr K V P) (part : Tree (OpaqueNodePtr K V P)) : Type 0 where
+  -- what putting a node in the place of a subtree leaves
+  pub record IsPutAt (old new last : NodeArena K V P) (context : Context (OpaqueNodePtr K V P)) (top root : OpaqueNodePtr K V P) (part : Tree (OpaqueNodePtr K V P)) : Type 0 where
     pub adopted : Adopts old last context top
     pub others : (p : OpaqueNodePtr K V P) → parent context ≢ Some p → held last p ≡ held new p
     pub at_root : (now : Tree (OpaqueNodePtr K V P)) → root_of now ≡ top → root_of (plug context now) ≡ root
 
-  pub hangs-at : (text : K → List ℕ) (old new last : NodeArena K V P) (context : Context (OpaqueNodePtr K V P)) (part : Tree (OpaqueNodePtr K V P)) (top root root_now : OpaqueNodePtr K V P) → StandsIn text old (plug context part) → root_of (plug context part) ≡ root
-      → ((p : OpaqueNodePtr K V P) → parent context ≡ Some p → held new p ≡ held old p) → IsHung new last (above context) top root root_now → HangsAt old new last context top root_now part
-  hangs-at text old new last Whole part top root root_now stands at_root kept (same, is) = record { adopted = tt; others = λ p differ. same p; at_root = λ now top_is. top_is ∙ sym is }
-  hangs-at text old new last (Under higher p prefix before byte after) part top root root_now stands at_root kept (is, written) =
+  pub is-put-at : (text : K → List ℕ) (old new last : NodeArena K V P) (context : Context (OpaqueNodePtr K V P)) (part : Tree (OpaqueNodePtr K V P)) (top root root_now : OpaqueNodePtr K V P) → StandsIn text old (plug context part) → root_of (plug context part) ≡ root
+      → ((p : OpaqueNodePtr K V P) → parent context ≡ Some p → held new p ≡ held old p) → IsChildOrRoot new last (above context) top root root_now → IsPutAt old new last context top root_now part
+  is-put-at text old new last Whole part top root root_now stands at_root kept (same, is) = record { adopted = tt; others = λ p differ. same p; at_root = λ now top_is. top_is ∙ sym is }
+  is-put-at text old new last (Under higher p prefix before byte after) part top root root_now stands at_root kept (is, written) =
       let (node, holds, shows, stand) = stands-part text old old higher (Inner p prefix (join before (Branch byte part after))) stands in
       record {
         adopted = λ own own_is. (written own (kept p refl ∙ own_is)).changed;
@@ -75,10 +75,10 @@ there-at low (x ∷ xs) byte child ys above =
     rw (ne_eqb x.0 byte (λ same. omega (arith, later, same))) (there-at (suc x.0) xs byte child ys above.2)
 
 -- a node is where it was in an arena that keeps the parent
-pub can-hang-at : {K V : Type 0} {P : ℕ} (text : K → List ℕ) (old new : NodeArena K V P) (context : Context (OpaqueNodePtr K V P)) (part : Tree (OpaqueNodePtr K V P)) → StandsIn text old (plug context part) → IsWellFormed (plug context part)
-    → ((p : OpaqueNodePtr K V P) → parent context ≡ Some p → held new p ≡ held old p) → CanHang new (above context) (root_of part)
-can-hang-at text old new Whole part stands sound kept = tt
-can-hang-at text old new (Under higher p prefix before byte after) part stands sound kept =
+pub has-child_under-at : {K V : Type 0} {P : ℕ} (text : K → List ℕ) (old new : NodeArena K V P) (context : Context (OpaqueNodePtr K V P)) (part : Tree (OpaqueNodePtr K V P)) → StandsIn text old (plug context part) → IsWellFormed (plug context part)
+    → ((p : OpaqueNodePtr K V P) → parent context ≡ Some p → held new p ≡ held old p) → HasChildUnder new (above context) (root_of part)
+has-child_under-at text old new Whole part stands sound kept = tt
+has-child_under-at text old new (Under higher p prefix before byte after) part stands sound kept =
     let (node, holds, shows, stand) = stands-part text old old higher (Inner p prefix (join before (Branch byte part after))) stands in
     let (two, ascend, below) = sound-part higher (Inner p prefix (join before (Branch byte part after))) sound in
     let children = shows.children ∙ roots-join before (Branch byte part after) in

@@ -238,7 +238,7 @@ module _ {K V : Type 0} {P : ℕ} (text : K → List ℕ) (arena : NodeArena K V
 
     -- what is loaded into an empty arena is alone there
     pub alone-loaded : IsAlone text arena root tree
-    alone-loaded = record { is_tree = is.is_tree; smallest_kinds = is.smallest_kinds; short = short-there; spelled = is.spelled; no_others = λ pointer is_held. is.adds.no_others pointer (free pointer) is_held }
+    alone-loaded = record { is_tree = is.is_tree; smallest_kinds = is.smallest_kinds; short = short-there; is_linked = is.is_linked; no_others = λ pointer is_held. is.adds.no_others pointer (free pointer) is_held }
 
     -- and the dictionary is that of the entries
     pub loaded-entry : AreApart (texts tree) → (k : ℕ) (d : K × V) → k < length entries → entry_at text arena (text (get_or entries k d).0) ≡ Some (get_or entries k d)

@@ -1,9 +1,9 @@
 -- A tree that is alone in its arena, after a part of it was exchanged, and its dictionary.
-use Rattle.art_steps.proofs.Names.{◌≡◌, ◌≢◌, ◌⊎◌, ◌∙◌, ℕ, ◌<◌, ◌^◌, List, [], ◌∷◌, ◌++◌, length, map, All, Contains, Option, Some, None, refl, sym, ap, subst, inl, inr, map-append, All-append, Contains-append_left, Contains-append_right, Contains-append_cases, opaque_key, OpaqueNodePtr, NodeArena, Nothing, held, SameNodes, AreDistinct, Spells, Tree, Inner, Branches, Branch, leaves, texts, places, branch_places, root_of, IsSound, IsAlone, IsArt, Context, Whole, Under, plug, path_to, leaves_before, leaves_after, KeepsAt, IsExchanged, join, entry_at, SameEntries, HasSmallestKinds, leaf_pointers, by_option, the_one, all_left, all_right}
+use Rattle.art_steps.proofs.Names.{◌≡◌, ◌≢◌, ◌⊎◌, ◌∙◌, ℕ, ◌<◌, ◌^◌, List, [], ◌∷◌, ◌++◌, length, map, All, Contains, Option, Some, None, refl, sym, ap, subst, inl, inr, map-append, All-append, Contains-append_left, Contains-append_right, Contains-append_cases, opaque_key, OpaqueNodePtr, NodeArena, Nothing, held, SameNodes, AreDistinct, IsLinkedList, Tree, Inner, Branches, Branch, leaves, texts, places, branch_places, root_of, IsSound, IsAlone, IsArt, Context, Whole, Under, plug, path_to, leaves_before, leaves_after, KeepsAt, IsExchanged, join, entry_at, SameEntries, HasSmallestKinds, leaf_pointers, by_option, the_one, all_left, all_right}
 use Rattle.art_steps.proofs.SharedLemmas.DictionaryLemmas.{AreApart, leaf-held-in, leaf-of-entry, held-entry}
 use Rattle.art_steps.proofs.SharedLemmas.ExchangedSubtree.{places-node, in-part, kept-tree, leaves-plug, smallest_kinds-whole, sound-whole, stands-whole}
 use Rattle.art_links.proofs.HeldNodes.{cases_held}
-use Rattle.art_steps.proofs.SharedLemmas.SpelledLists.{Spells-kept}
+use Rattle.art_steps.proofs.SharedLemmas.KeptLists.{IsLinkedList-kept}
 
 module _ {H : Type 0} where
   -- the whole has the root that it had, where its part has
@@ -78,11 +78,11 @@ module _ {H : Type 0} where
 module _ {K V : Type 0} {P : ℕ} (text : K → List ℕ) (old new : NodeArena K V P) where
   -- a tree whose part is exchanged is alone, where all that is new stands in the new part, and what was in the old part and is not in the new one is gone
   pub alone-grown : (root : OpaqueNodePtr K V P) (context : Context (OpaqueNodePtr K V P)) (part now : Tree (OpaqueNodePtr K V P)) → IsAlone text old root (plug context part) → AreDistinct (places (plug context part)) → IsExchanged old new text context part now
-      → IsSound (path_to context) now → HasSmallestKinds now → All (λ x. length x < 2 ^ 32) (texts now) → Spells new (map opaque_key (leaf_pointers (plug context now)))
+      → IsSound (path_to context) now → HasSmallestKinds now → All (λ x. length x < 2 ^ 32) (texts now) → IsLinkedList new (map opaque_key (leaf_pointers (plug context now)))
       → ((p : OpaqueNodePtr K V P) → held new p ≢ Nothing → held old p ≡ Nothing → Contains (places now) p)
       → ((p : OpaqueNodePtr K V P) → Contains (places part) p → Contains (places now) p ⊎ (held new p ≡ Nothing))
       → IsAlone text new (root_of (plug context now)) (plug context now)
-  alone-grown root context part now alone distinct exchanged sound smallest_kinds short spelled fresh gone = record {
+  alone-grown root context part now alone distinct exchanged sound smallest_kinds short is_linked fresh gone = record {
     is_tree = record {
       at_root = refl;
       stands = stands-whole text old new [] context part now alone.is_tree.sound distinct exchanged;
@@ -90,7 +90,7 @@ module _ {K V : Type 0} {P : ℕ} (text : K → List ℕ) (old new : NodeArena K
     };
     smallest_kinds = smallest_kinds-whole context part now alone.smallest_kinds smallest_kinds;
     short = texts-grown (λ x. length x < 2 ^ 32) context part now alone.short short;
-    spelled = spelled;
+    is_linked = is_linked;
     no_others = λ p is_held. elim (cases_held (held old p)) [
       | inl free ↦ in-part context now p (fresh p is_held free)
       | inr was ↦ elim (other-part context part now p (alone.no_others p was)) [
@@ -110,7 +110,7 @@ module _ {K V : Type 0} {P : ℕ} (text : K → List ℕ) (old new : NodeArena K
       is_tree = record { at_root = alone.is_tree.at_root; stands = kept-tree text old new tree alone.is_tree.stands (λ q inside. keeps-same q); sound = alone.is_tree.sound };
       smallest_kinds = alone.smallest_kinds;
       short = alone.short;
-      spelled = Spells-kept old new (λ p was. same p) (map opaque_key (leaf_pointers tree)) alone.spelled;
+      is_linked = IsLinkedList-kept old new (λ p was. same p) (map opaque_key (leaf_pointers tree)) alone.is_linked;
       no_others = λ p is_held. alone.no_others p (λ none. is_held (same p ∙ none));
     }
 

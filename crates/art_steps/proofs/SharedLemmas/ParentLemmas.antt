@@ -1,5 +1,5 @@
 -- The parent of a node.
-use Rattle.art_steps.proofs.Names.{◌≡◌, ◌≢◌, ◌∙◌, ℕ, Option, Some, None, IsNone, Result, Ok, Err, OnOk, OnErr, Bool, true, false, sym, ap, subst, refl, same_Some, most_children, is_err, IsAscending, child_at, key_bytes, node_kind, opaque_key, OpaqueNodePtr, LeafNode, NodeArena, HeldInner, Nothing, held, held_leaf, held_under, CanHang, IsHung, written_over, one-inner, LeafKind, InnerNode, with_children, HasRoomFor}
+use Rattle.art_steps.proofs.Names.{◌≡◌, ◌≢◌, ◌∙◌, ℕ, Option, Some, None, IsNone, Result, Ok, Err, OnOk, OnErr, Bool, true, false, sym, ap, subst, refl, same_Some, most_children, is_err, IsAscending, child_at, key_bytes, node_kind, opaque_key, OpaqueNodePtr, LeafNode, NodeArena, HeldInner, Nothing, held, held_leaf, held_under, HasChildUnder, IsChildOrRoot, written_over, one-inner, LeafKind, InnerNode, with_children, HasRoomFor}
 use Rattle.art_steps.proofs.InsertLemmas.NodeLemmas.{some-inner}
 
 pub always-ok : {T E : Type 0} (r : Result T E) (Q : Type 0) → Q → OnOk r Q
@@ -25,7 +25,7 @@ module _ {K V : Type 0} {P : ℕ} where
   there-already None A some none = absurd (some refl)
   there-already (Some child) A some none = absurd (cc)
 
-  pub is-parent : (arena : NodeArena K V P) (above : Option (OpaqueNodePtr K V P × ℕ)) (parent : OpaqueNodePtr K V P) (byte : ℕ) (child : OpaqueNodePtr K V P) → CanHang arena above child → above ≡ Some (parent, byte) → IsParent arena parent byte
+  pub is-parent : (arena : NodeArena K V P) (above : Option (OpaqueNodePtr K V P × ℕ)) (parent : OpaqueNodePtr K V P) (byte : ℕ) (child : OpaqueNodePtr K V P) → HasChildUnder arena above child → above ≡ Some (parent, byte) → IsParent arena parent byte
   is-parent arena None parent byte child can is = absurd (cc)
   is-parent arena (Some (p, b)) parent byte child (node, holds, some, ascend) is =
       let one : (p, b) ≡ (parent, byte) = same_Some (p, b) (parent, byte) is in
@@ -39,9 +39,9 @@ module _ {K V : Type 0} {P : ℕ} where
       }
 
 -- a node that is put where it is leaves the parent as it is
-pub hung-there : {K V : Type 0} {P : ℕ} (arena : NodeArena K V P) (above : Option (OpaqueNodePtr K V P × ℕ)) (parent : OpaqueNodePtr K V P) (byte : ℕ) (child root : OpaqueNodePtr K V P) → CanHang arena above child → above ≡ Some (parent, byte) → IsHung arena arena above child root root
-hung-there arena None parent byte child root can is = absurd (cc)
-hung-there arena (Some (p, b)) parent byte child root (node, holds, some, ascend) is = (
+pub child_or_root-there : {K V : Type 0} {P : ℕ} (arena : NodeArena K V P) (above : Option (OpaqueNodePtr K V P × ℕ)) (parent : OpaqueNodePtr K V P) (byte : ℕ) (child root : OpaqueNodePtr K V P) → HasChildUnder arena above child → above ≡ Some (parent, byte) → IsChildOrRoot arena arena above child root root
+child_or_root-there arena None parent byte child root can is = absurd (cc)
+child_or_root-there arena (Some (p, b)) parent byte child root (node, holds, some, ascend) is = (
   refl,
   λ own is_own.
       let same : node ≡ own = one-inner (held arena p) node own holds is_own in

@@ -1,11 +1,11 @@
 -- Insertion: a new inner node over a new leaf and the node from which its key differs.
-use Rattle.art_tree.proofs.Names.{◌≡◌, ◌≢◌, ◌∙◌, ℕ, ◌+◌, ◌-◌, ◌<◌, ◌≤◌, ◌^◌, Bool, true, false, nat_lt, if◌then◌else◌, List, [], ◌∷◌, ◌++◌, length, length-append, take, drop, All, AllPairs, Contains, Some, refl, sym, ap, subst, inl, inr, arith, append-nil, slice_get_within, All-contains, Contains-append_right, Less, IsPrefixOf, text_order, StandsFor, capped, kind_for, header_of, InnerNode, leaf_key, node_kind, opaque_key, opaque_pointer, OpaqueNodePtr, LeafNode, NodeArena, Held, HeldInner, HeldLeaf, Nothing, held, Changes, SameNodes, AreDistinct, HoldsLeaf, Spells, text_at, NodeStands, StandsIn, AllStandIn, TreeAt, Tree, Leaf, Inner, Branches, branch_roots, root_of, leaves, branch_leaves, texts, places, branch_places, IsSound, IsAlone, IsArt, Context, plug, path_to, leaves_before, leaves_after, HasGap, HoldsEntry, IsBeside, LiesBeside, StaysAt, two_children, IsAtEnd, CanHang, IsHung, StandsBeside, IsEntered, above, Parts, IsPlaced, node_of, node_with_prefix, End, First, Last, Mismatch, Spot, leaf_kind, one-inner, LeafKind, Node4}
-use Rattle.art_steps.proofs.InsertLemmas.AddedLeaf.{AreSteps, HasTaken, below-kept, can-hang, last-others, leaves-kept, tree-added}
+use Rattle.art_tree.proofs.Names.{◌≡◌, ◌≢◌, ◌∙◌, ℕ, ◌+◌, ◌-◌, ◌<◌, ◌≤◌, ◌^◌, Bool, true, false, nat_lt, if◌then◌else◌, List, [], ◌∷◌, ◌++◌, length, length-append, take, drop, All, AllPairs, Contains, Some, refl, sym, ap, subst, inl, inr, arith, append-nil, slice_get_within, All-contains, Contains-append_right, Less, IsPrefixOf, text_order, StandsFor, capped, kind_for, header_of, InnerNode, leaf_key, node_kind, opaque_key, opaque_pointer, OpaqueNodePtr, LeafNode, NodeArena, Held, HeldInner, HeldLeaf, Nothing, held, Changes, SameNodes, AreDistinct, HoldsLeaf, IsLinkedList, text_at, NodeStands, StandsIn, AllStandIn, TreeAt, Tree, Leaf, Inner, Branches, branch_roots, root_of, leaves, branch_leaves, texts, places, branch_places, IsSound, IsAlone, IsArt, Context, plug, path_to, leaves_before, leaves_after, HasGap, HoldsEntry, IsBeside, IsOnSide, StaysAt, two_children, IsAtEnd, HasChildUnder, IsChildOrRoot, IsLeafBeside, IsEntered, above, Parts, IsPlaced, node_of, node_with_prefix, End, First, Last, Mismatch, Spot, leaf_kind, one-inner, LeafKind, Node4}
+use Rattle.art_steps.proofs.InsertLemmas.AddedLeaf.{AreSteps, HasTaken, below-kept, has-child_under, last-others, leaves-kept, tree-added}
 use Rattle.art_steps.proofs.SharedLemmas.BranchLemmas.{leaves-join, one_branch}
 use Rattle.art_steps.proofs.SharedLemmas.ChangedTree.{place-held, root-place}
 use Rattle.art_steps.proofs.SharedLemmas.DictionaryLemmas.{AreApart, end-in, leaf-held-in}
 use Rattle.art_steps.proofs.SharedLemmas.ExchangedSubtree.{distinct-part, kept-branches, sound-part, smallest_kinds-part, stands-part}
-use Rattle.art_steps.proofs.InsertLemmas.GapLemmas.{beside-key, gap, keys_of, lies, spelled-parts}
+use Rattle.art_steps.proofs.InsertLemmas.GapLemmas.{beside-key, gap, keys_of, lies, list-parts}
 use Rattle.art_steps.proofs.SharedLemmas.ExchangedTree.{alone-same}
 use Rattle.art_steps.proofs.InsertLemmas.SubtreeLemmas.{HasForkPlace, fork-place, in-taken, leaves-sides, leaves-trimmed, places-sides, places-trimmed, smallest_kinds-sides, smallest_kinds-taken, smallest_kinds-trimmed, both-sides, ltrimmed, branches_left, branches_right}
 use Rattle.art_steps.proofs.PlaceLemmas.TextsBelow.{branch-text-begins}
@@ -14,21 +14,21 @@ use Rattle.art_links.proofs.HeldNodes.{cases_pointer, text-held}
 module _ {H : Type 0} where
   -- the leaf at the end of a tree on whose side a byte lies is beside the gap there
   beside-tree : (byte other len : ℕ) (part : Tree H) (end : End) (p : H) → end ≡ (if nat_lt byte other then First else Last) → IsAtEnd end (leaves part) p
-      → StandsBeside end (branch_leaves (branches_left byte other (ltrimmed len part))) (branch_leaves (branches_right byte other (ltrimmed len part))) p
+      → IsLeafBeside end (branch_leaves (branches_left byte other (ltrimmed len part))) (branch_leaves (branches_right byte other (ltrimmed len part))) p
   beside-tree byte other len part end p is at_end = by_test (nat_lt byte other) refl
     where
       alone : branch_leaves (one_branch other (ltrimmed len part)) ≡ leaves part
       alone = append-nil (leaves (ltrimmed len part)) ∙ leaves-trimmed len part
 
-      by_test : (test : Bool) → nat_lt byte other ≡ test → StandsBeside end (branch_leaves (branches_left byte other (ltrimmed len part))) (branch_leaves (branches_right byte other (ltrimmed len part))) p
+      by_test : (test : Bool) → nat_lt byte other ≡ test → IsLeafBeside end (branch_leaves (branches_left byte other (ltrimmed len part))) (branch_leaves (branches_right byte other (ltrimmed len part))) p
       by_test true less =
           let first : end ≡ First = is ∙ ap (λ t. if t then First else Last) less in
           let (x, others, at) = subst (λ e. IsAtEnd e (leaves part) p) first at_end in
-          subst (λ e. StandsBeside e (branch_leaves (branches_left byte other (ltrimmed len part))) (branch_leaves (branches_right byte other (ltrimmed len part))) p) (sym first) (rw less (x, (others, alone ∙ at)))
+          subst (λ e. IsLeafBeside e (branch_leaves (branches_left byte other (ltrimmed len part))) (branch_leaves (branches_right byte other (ltrimmed len part))) p) (sym first) (rw less (x, (others, alone ∙ at)))
       by_test false upto =
           let last : end ≡ Last = is ∙ ap (λ t. if t then First else Last) upto in
           let (x, others, at) = subst (λ e. IsAtEnd e (leaves part) p) last at_end in
-          subst (λ e. StandsBeside e (branch_leaves (branches_left byte other (ltrimmed len part))) (branch_leaves (branches_right byte other (ltrimmed len part))) p) (sym last) (rw upto (x, (others, alone ∙ at)))
+          subst (λ e. IsLeafBeside e (branch_leaves (branches_left byte other (ltrimmed len part))) (branch_leaves (branches_right byte other (ltrimmed len part))) p) (sym last) (rw upto (x, (others, alone ∙ at)))
 
 -- a key differs from the texts at a spot of a tree that is alone in an arena
 pub record ForkPoint {K V : Type 0} {P : ℕ} (text : K → List ℕ) (arena : NodeArena K V P) (root : OpaqueNodePtr K V P) (spot : Spot K V P) (mismatch : Mismatch) (key : K) : Type 0 where
@@ -92,14 +92,14 @@ module _ {K V : Type 0} {P : ℕ} {text : K → List ℕ} {old : NodeArena K V P
 
   -- the leaf on the key's side of the part is beside the gap for the key
   module _ (end : End) (sibling : ℕ) (at_end : IsAtEnd end (leaves part_there) (opaque_pointer LeafKind sibling)) (end_is : end ≡ (if nat_lt mismatch.byte mismatch.node_byte then First else Last)) where
-    pub beside-there : StandsBeside end (branch_leaves left_there) (branch_leaves right_there) (opaque_pointer LeafKind sibling)
+    pub beside-there : IsLeafBeside end (branch_leaves left_there) (branch_leaves right_there) (opaque_pointer LeafKind sibling)
     beside-there = beside-tree mismatch.byte mismatch.node_byte len_there part_there end (opaque_pointer LeafKind sibling) end_is at_end
 
-  module _ (end : End) (sibling : ℕ) (beside : StandsBeside end (branch_leaves left_there) (branch_leaves right_there) (opaque_pointer LeafKind sibling)) where
+  module _ (end : End) (sibling : ℕ) (beside : IsLeafBeside end (branch_leaves left_there) (branch_leaves right_there) (opaque_pointer LeafKind sibling)) where
     pub gap-there : HasGap old end sibling
     gap-there = gap text old root around_it part_there left_there right_there alone-there leaves-there end sibling beside
 
-    pub lies-there : length (text key) < 2 ^ 32 → ((path : List ℕ) (t : Tree (OpaqueNodePtr K V P)) → IsSound path t → AllPairs (λ a b. text_order a b ≡ Less) (texts t)) → LiesBeside end (text key) (text_at text old sibling)
+    pub lies-there : length (text key) < 2 ^ 32 → ((path : List ℕ) (t : Tree (OpaqueNodePtr K V P)) → IsSound path t → AllPairs (λ a b. text_order a b ≡ Less) (texts t)) → IsOnSide end (text key) (text_at text old sibling)
     lies-there short ascend = lies text old root around_it part_there left_there right_there alone-there leaves-there end sibling beside shared_there mismatch.byte (text key) fork-there.place fork-there.leads (omega (arith, short)) ascend
 
   pub there-held : held old spot.node ≢ Nothing
@@ -268,17 +268,17 @@ module _ {K V : Type 0} {P : ℕ} {text : K → List ℕ} {old : NodeArena K V P
               same = λ p other leaf_there. placed.changes.others p other ∙ is-trimmed.others p (λ same. leaf_there (same ∙ sym parts.at.at_root));
             }
 
-            pub fork-hangs : CanHang new spot.parent spot.node
-            fork-hangs = subst (CanHang new spot.parent) parts.at.at_root (subst (λ above. CanHang new above (root_of part_there)) parts.at.hangs (can-hang text old linked new around_it part_there root leaf top key value fork-steps))
+            pub fork-has_child : HasChildUnder new spot.parent spot.node
+            fork-has_child = subst (HasChildUnder new spot.parent) parts.at.at_root (subst (λ above. HasChildUnder new above (root_of part_there)) parts.at.parent_is (has-child_under text old linked new around_it part_there root leaf top key value fork-steps))
 
-            module _ (last : NodeArena K V P) (root_now : OpaqueNodePtr K V P) (hung : IsHung new last spot.parent top root root_now) (short : length (text key) < 2 ^ 32) (end_is : end ≡ (if nat_lt mismatch.byte mismatch.node_byte then First else Last))
-                (spells : (left right : List ℕ) → Spells old (left ++ right) → IsBeside end left right sibling → Spells linked (left ++ opaque_key leaf ∷ right)) where
-              hung-there : IsHung new last (above around_it) top root root_now
-              hung-there = subst (λ parent. IsHung new last parent top root root_now) (sym parts.at.hangs) hung
+            module _ (last : NodeArena K V P) (root_now : OpaqueNodePtr K V P) (child_or_root : IsChildOrRoot new last spot.parent top root root_now) (short : length (text key) < 2 ^ 32) (end_is : end ≡ (if nat_lt mismatch.byte mismatch.node_byte then First else Last))
+                (is_list : (left right : List ℕ) → IsLinkedList old (left ++ right) → IsBeside end left right sibling → IsLinkedList linked (left ++ opaque_key leaf ∷ right)) where
+              child_or_root-there : IsChildOrRoot new last (above around_it) top root root_now
+              child_or_root-there = subst (λ parent. IsChildOrRoot new last parent top root root_now) (sym parts.at.parent_is) child_or_root
 
-              spelled-there : Spells linked (keys_of (leaves_before around_it ++ branch_leaves left_there) ++ opaque_key leaf ∷ keys_of (branch_leaves right_there ++ leaves_after around_it))
-              spelled-there =
-                  spells _ _ (spelled-parts text old root around_it part_there left_there right_there alone-there leaves-there)
+              list-there : IsLinkedList linked (keys_of (leaves_before around_it ++ branch_leaves left_there) ++ opaque_key leaf ∷ keys_of (branch_leaves right_there ++ leaves_after around_it))
+              list-there =
+                  is_list _ _ (list-parts text old root around_it part_there left_there right_there alone-there leaves-there)
                   (beside-key text old root around_it part_there left_there right_there alone-there leaves-there end sibling (beside-there end sibling at_end end_is))
 
               trimmed-stands : StandsIn text last trimmed_there
@@ -286,7 +286,7 @@ module _ {K V : Type 0} {P : ℕ} {text : K → List ℕ} {old : NodeArena K V P
                 where
                   by_part : (part : Tree (OpaqueNodePtr K V P)) → part_there ≡ part → StandsIn text old part → StandsIn text last (ltrimmed len_there part)
                   by_part (Leaf pointer x) same (l, holds, has) =
-                      let now = (leaves-kept text old linked new around_it part_there root leaf top key value fork-steps last root_now hung-there pointer l holds).leaf l holds in
+                      let now = (leaves-kept text old linked new around_it part_there root leaf top key value fork-steps last root_now child_or_root-there pointer l holds).leaf l holds in
                       (now.0, now.1, ap text now.2 ∙ has)
                   by_part (Inner pointer prefix branches) same (own, holds, shows, stand) =
                       let root_is : pointer ≡ spot.node = sym (ap root_of same) ∙ parts.at.at_root in
@@ -295,9 +295,9 @@ module _ {K V : Type 0} {P : ℕ} {text : K → List ℕ} {old : NodeArena K V P
                       let inside : Contains (places part_there) pointer = subst (λ t. Contains (places t) pointer) (sym same) (0, omega arith, refl) in
                       let apart : All (λ q. q ≢ pointer) (branch_places branches) = (subst (λ t. AreDistinct (places t)) same (distinct-part around_it part_there distinct-there)).0 in (
                         now.0,
-                        last-others text old linked new around_it part_there root leaf top key value fork-steps last root_now hung-there pointer inside ∙ ap (held new) root_is ∙ placed.changes.others spot.node other ∙ now.1,
+                        last-others text old linked new around_it part_there root leaf top key value fork-steps last root_now child_or_root-there pointer inside ∙ ap (held new) root_is ∙ placed.changes.others spot.node other ∙ now.1,
                         now.2 prefix branches (same ∙ ap (λ p. Inner p prefix branches) root_is),
-                        kept-branches text old last branches stand (λ q below. below-kept text old linked new around_it part_there root leaf top key value fork-steps last root_now hung-there q
+                        kept-branches text old last branches stand (λ q below. below-kept text old linked new around_it part_there root leaf top key value fork-steps last root_now child_or_root-there q
                             (subst (λ t. Contains (places t) q) (sym same) (Contains-append_right (pointer ∷ []) (branch_places branches) q below))
                             (λ at_root. All-contains (λ other. other ≢ pointer) (branch_places branches) q apart below (at_root ∙ ap root_of same))),
                       )
@@ -312,7 +312,7 @@ module _ {K V : Type 0} {P : ℕ} {text : K → List ℕ} {old : NodeArena K V P
               shared-is : take (mismatch.index - spot.depth) (drop spot.depth (text_at text trimmed slot)) ≡ shared_there
               shared-is = ap (λ t. take (mismatch.index - spot.depth) (drop spot.depth t)) text-trimmed ∙ ap (λ d. take (mismatch.index - d) (drop d (text key))) (sym parts.at.deep)
 
-              taken-there : HasTaken text old linked new around_it part_there root leaf top key value fork-steps last root_now hung-there shared_there left_there right_there mismatch.byte
+              taken-there : HasTaken text old linked new around_it part_there root leaf top key value fork-steps last root_now child_or_root-there shared_there left_there right_there mismatch.byte
               taken-there = record {
                 place = fork-there.place;
                 leads = fork-there.leads;
@@ -323,7 +323,7 @@ module _ {K V : Type 0} {P : ℕ} {text : K → List ℕ} {old : NodeArena K V P
                 stand_before = sides-stand.0;
                 stand_after = sides-stand.1;
                 same_leaves = leaves-there;
-                spelled = spelled-there;
+                is_linked = list-there;
                 gone = λ p inside. inl (in-taken shared_there top left_there mismatch.byte leaf (text key) right_there p (inr (inr (subst (λ all. Contains all p) (sym (places-sides mismatch.byte mismatch.node_byte trimmed_there ∙ places-trimmed len_there part_there)) inside))));
                 smallest_kinds = (let sides = smallest_kinds-sides mismatch.byte mismatch.node_byte trimmed_there (smallest_kinds-trimmed len_there part_there (smallest_kinds-part around_it part_there alone-there.smallest_kinds)) in
                     smallest_kinds-taken top shared_there left_there mismatch.byte leaf (text key) right_there (placed.is_kind ∙ ap (λ b. kind_for (length (branch_roots b) + 1)) (sym (both-sides mismatch.byte mismatch.node_byte trimmed_there))) sides.0 sides.1);
@@ -332,4 +332,4 @@ module _ {K V : Type 0} {P : ℕ} {text : K → List ℕ} {old : NodeArena K V P
               -- the tree has the leaf, and its entries that of the leaf
               pub fork-added : ((path : List ℕ) (t : Tree (OpaqueNodePtr K V P)) → IsSound path t → AreApart (texts t)) → IsArt text last (Some root_now) × IsEntered text old last key value × HoldsEntry last leaf key value
               fork-added =
-                  tree-added text old linked new around_it part_there root leaf top key value fork-steps last root_now hung-there shared_there left_there right_there mismatch.byte taken-there alone-there
+                  tree-added text old linked new around_it part_there root leaf top key value fork-steps last root_now child_or_root-there shared_there left_there right_there mismatch.byte taken-there alone-there

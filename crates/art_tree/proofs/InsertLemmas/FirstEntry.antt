@@ -1,5 +1,5 @@
 -- Insertion: the first entry of a tree, and an entry that replaces another.
-use Rattle.art_tree.proofs.Names.{LeafPtr, LeafKind, ◌≡◌, ◌≢◌, ◌∙◌, ℕ, length, ◌<◌, ◌^◌, List, [], ◌∷◌, Contains, Some, None, inl, inr, refl, sym, ap, arith, Option, All-cons, All-nil, leaf_key, leaf_value, previous_key, next_key, slab_key, opaque_pointer, OpaqueNodePtr, LeafNode, NodeArena, HeldLeaf, Nothing, held, Changes, held_leaf, leaf_at, Tree, Leaf, leaves, IsAlone, IsArt, KeepsAt, entry_at, IsEntered, leaf_pointer, by_option, the_one, spells-exchanged, stands-exchanged}
+use Rattle.art_tree.proofs.Names.{LeafPtr, LeafKind, ◌≡◌, ◌≢◌, ◌∙◌, ℕ, length, ◌<◌, ◌^◌, List, [], ◌∷◌, Contains, Some, None, inl, inr, refl, sym, ap, arith, Option, All-cons, All-nil, leaf_key, leaf_value, previous_key, next_key, slab_key, opaque_pointer, OpaqueNodePtr, LeafNode, NodeArena, HeldLeaf, Nothing, held, Changes, held_leaf, leaf_at, Tree, Leaf, leaves, IsAlone, IsArt, KeepsAt, entry_at, IsEntered, leaf_pointer, by_option, the_one, list-exchanged, stands-exchanged}
 use Rattle.art_steps.proofs.SharedLemmas.DictionaryLemmas.{AreApart, empty-entry, held-entry, leaf-held-in, leaf-of-entry}
 use Rattle.art_steps.proofs.SharedLemmas.ExchangedTree.{entries-but}
 use Rattle.art_steps.proofs.InsertLemmas.NodeLemmas.{one-leaf, some-leaf}
@@ -17,7 +17,7 @@ module _ {K V : Type 0} {P : ℕ} (text : K → List ℕ) (old new : NodeArena K
       is_tree = record { at_root = refl; stands = (leaf, changes.changed, ap text is_key); sound = ((text key, refl), omega (arith, short)) };
       smallest_kinds = tt;
       short = All-cons (λ x. length x < 2 ^ 32) (text key) [] short (All-nil (λ x. length x < 2 ^ 32));
-      spelled = record { distinct = ((λ k d inside. absurd (omega (arith, inside))), tt); spelled = ((leaf, leaf-of (leaf_at new (slab_key at)) leaf changes.changed, no_previous, no_next), tt) };
+      is_linked = record { distinct = ((λ k d inside. absurd (omega (arith, inside))), tt); is_linked = ((leaf, leaf-of (leaf_at new (slab_key at)) leaf changes.changed, no_previous, no_next), tt) };
       no_others = λ pointer is_held. elim (cases_pointer pointer (leaf_pointer at)) [
         | inl same ↦ (0, omega arith, sym same)
         | inr differ ↦ absurd (is_held (changes.others pointer differ ∙ empty pointer))
@@ -50,7 +50,7 @@ module _ {K V : Type 0} {P : ℕ} (text : K → List ℕ) (old new : NodeArena K
     is_tree = record { at_root = alone.is_tree.at_root; stands = stands-exchanged text old new slot was now found changes tree same_text alone.is_tree.stands; sound = alone.is_tree.sound };
     smallest_kinds = alone.smallest_kinds;
     short = alone.short;
-    spelled = spells-exchanged old new slot was now found changes same_previous same_next _ alone.spelled;
+    is_linked = list-exchanged old new slot was now found changes same_previous same_next _ alone.is_linked;
     no_others = λ q is_held. alone.no_others q (λ none. elim (cases_pointer q at) [
       | inl same ↦ some-leaf (held old at) was there (ap (held old) (sym same) ∙ none)
       | inr differ ↦ is_held (changes.others q differ ∙ none)

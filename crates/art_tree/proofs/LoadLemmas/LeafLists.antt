@@ -1,9 +1,9 @@
 -- Loading: leaves that are linked one after another.
-use Rattle.art_tree.proofs.Names.{LeafPtr, ◌≡◌, ◌≢◌, ◌∙◌, ℕ, zero, suc, ◌+◌, ◌-◌, ◌<◌, List, [], ◌∷◌, ◌++◌, length, length-append, map, take, get_or, slice_get, Some, None, inl, inr, refl, sym, ap, subst, arith, append_assoc, Contains, option_and_then, map-append, length-map, take_all, get_or_at, Contains-append_left, Contains-push_cases, Contains-push, slice_get_within, slice_get-get_or, leaf_key, leaf_value, previous_key, next_key, node_kind, opaque_key, slab_key, opaque_pointer, OpaqueNodePtr, LeafNode, NodeArena, Held, HeldInner, HeldLeaf, Nothing, held, held_leaf, Changes, HoldsLeaf, IsKnit, IsUnlinked, SameButLinks, StandsBetween, Spells, leaf_at, next_at, text_at, text_of_entry, texts_of, leaf_texts, leaf_pointer, HoldEntries, AreLinked, Adds, leaf_place, LeafKind}
+use Rattle.art_tree.proofs.Names.{LeafPtr, ◌≡◌, ◌≢◌, ◌∙◌, ℕ, zero, suc, ◌+◌, ◌-◌, ◌<◌, List, [], ◌∷◌, ◌++◌, length, length-append, map, take, get_or, slice_get, Some, None, inl, inr, refl, sym, ap, subst, arith, append_assoc, Contains, option_and_then, map-append, length-map, take_all, get_or_at, Contains-append_left, Contains-push_cases, Contains-push, slice_get_within, slice_get-get_or, leaf_key, leaf_value, previous_key, next_key, node_kind, opaque_key, slab_key, opaque_pointer, OpaqueNodePtr, LeafNode, NodeArena, Held, HeldInner, HeldLeaf, Nothing, held, held_leaf, Changes, HoldsLeaf, IsKnit, IsUnlinked, SameButLinks, StandsBetween, IsLinkedList, leaf_at, next_at, text_at, text_of_entry, texts_of, leaf_texts, leaf_pointer, HoldEntries, AreLinked, Adds, leaf_place, LeafKind}
 use Rattle.art_steps.proofs.SharedLemmas.PrefixLemmas.{take-get}
 use Rattle.art_steps.proofs.LoadLemmas.PlacedTrees.{adds-more}
 use Rattle.art_links.proofs.HeldNodes.{leaf-of, text-held, kept-at}
-use Rattle.art_steps.proofs.SharedLemmas.SpelledLists.{Spells-kept, AreKnit, NameNext}
+use Rattle.art_steps.proofs.SharedLemmas.KeptLists.{IsLinkedList-kept, AreKnit, NameNext}
 
 -- the keys of leaves
 pub keys-of : {K V : Type 0} {P : ℕ} (of : List (LeafPtr K V P)) → map opaque_key (map (leaf_pointer {K = K} {V = V} {P = P}) of) ≡ map slab_key of
@@ -101,7 +101,7 @@ module _ {K V : Type 0} {P : ℕ} where
   -- a new leaf holds the next entry, and is not linked yet
   pub record IsAllocated (old new : NodeArena K V P) (done : List (K × V)) (before : List (LeafPtr K V P)) (entry : K × V) (this : LeafPtr K V P) : Type 0 where
     pub entries : HoldEntries new (map leaf_pointer (before ++ this ∷ [])) (done ++ entry ∷ [])
-    pub spelled : Spells new (map slab_key before)
+    pub is_linked : IsLinkedList new (map slab_key before)
     pub adds : Adds old new (map leaf_pointer (before ++ this ∷ []))
     pub leaf : LeafNode K V P
     pub at_key : leaf_at new (slab_key this) ≡ Some leaf
@@ -118,7 +118,7 @@ module _ {K V : Type 0} {P : ℕ} where
       let ys = map leaf_pointer (before ++ this ∷ []) in
       record {
         entries = subst (λ p. HoldEntries new p (done ++ entry ∷ [])) (sym pointers) (hold-last new (leaf_pointer this) leaf entry changes.changed key value xs done (hold-kept now new kept xs done l.hold));
-        spelled = Spells-kept now new kept (map slab_key before) l.spelled;
+        is_linked = IsLinkedList-kept now new kept (map slab_key before) l.is_linked;
         adds = adds-more old now new (leaf_pointer this) (HeldLeaf leaf) xs ys l.adds free changes (λ e. cc)
             (λ pointer inside. elim (Contains-push_cases xs (leaf_pointer this) pointer (subst (λ z. Contains z pointer) pointers inside)) [ inl earlier ↦ inr earlier | inr same ↦ inl (sym same) ])
             (subst (λ z. Contains z (leaf_pointer this)) (sym pointers) (Contains-push xs (leaf_pointer this)))
@@ -136,17 +136,17 @@ module _ {K V : Type 0} {P : ℕ} where
   pub first-linked : (old new : NodeArena K V P) (done : List (K × V)) (before : List (LeafPtr K V P)) (entry : K × V) (this : LeafPtr K V P) → before ≡ [] → IsAllocated old new done before entry this → AreLinked old new (done ++ entry ∷ []) (before ++ this ∷ [])
   first-linked old new done before entry this none a = record {
     hold = a.entries;
-    spelled = subst (λ z. Spells new (map slab_key (z ++ this ∷ []))) (sym none) (record { distinct = ((λ k d lt. absurd (omega (arith, lt))), tt); spelled = ((a.leaf, a.at_key, a.no_previous, a.no_next), tt) });
+    is_linked = subst (λ z. IsLinkedList new (map slab_key (z ++ this ∷ []))) (sym none) (record { distinct = ((λ k d lt. absurd (omega (arith, lt))), tt); is_linked = ((a.leaf, a.at_key, a.no_previous, a.no_next), tt) });
     adds = a.adds;
   }
 
   -- a leaf that is linked after the last one
   pub next-linked : (old now new : NodeArena K V P) (done : List (K × V)) (before front : List (LeafPtr K V P)) (entry : K × V) (this sibling : LeafPtr K V P) → before ≡ front ++ sibling ∷ [] → NameNext now → IsAllocated old now done before entry this
       → SameButLinks now new → StandsBetween now new (Some (slab_key sibling)) (slab_key this) (next_at now (slab_key sibling))
-      → ((first last : List ℕ) → Spells now (first ++ slab_key sibling ∷ last) → Spells new (first ++ slab_key sibling ∷ slab_key this ∷ last)) → AreLinked old new (done ++ entry ∷ []) (before ++ this ∷ [])
-  next-linked old now new done before front entry this sibling split name_next a same placed spells =
+      → ((first last : List ℕ) → IsLinkedList now (first ++ slab_key sibling ∷ last) → IsLinkedList new (first ++ slab_key sibling ∷ slab_key this ∷ last)) → AreLinked old new (done ++ entry ∷ []) (before ++ this ∷ [])
+  next-linked old now new done before front entry this sibling split name_next a same placed is_list =
       let keys = ap (map slab_key) split ∙ map-append slab_key front (sibling ∷ []) in
-      let was : Spells now (map slab_key front ++ slab_key sibling ∷ []) = subst (Spells now) keys a.spelled in
+      let was : IsLinkedList now (map slab_key front ++ slab_key sibling ∷ []) = subst (IsLinkedList now) keys a.is_linked in
       let none : next_at now (slab_key sibling) ≡ None = name_next (map slab_key front) [] (slab_key sibling) was in
       let now_keys : map slab_key (before ++ this ∷ []) ≡ map slab_key front ++ slab_key sibling ∷ slab_key this ∷ [] =
       map-append slab_key before (this ∷ []) ∙ ap (λ z. z ++ slab_key this ∷ []) keys ∙ append_assoc (map slab_key front) (slab_key sibling ∷ []) (slab_key this ∷ []) in
@@ -157,7 +157,7 @@ module _ {K V : Type 0} {P : ℕ} where
       (subst (λ z. Contains z (leaf_pointer sibling)) (sym (ap (map leaf_pointer) split ∙ map-append leaf_pointer front (sibling ∷ []))) (Contains-push (map leaf_pointer front) (leaf_pointer sibling)))) in
       record {
         hold = hold-links now new same (before ++ this ∷ []) (done ++ entry ∷ []) a.entries;
-        spelled = subst (Spells new) (sym now_keys) (spells (map slab_key front) [] was);
+        is_linked = subst (IsLinkedList new) (sym now_keys) (is_list (map slab_key front) [] was);
         adds = adds-links now new same (slab_key this) (slab_key sibling) (λ key not_this not_sibling. placed.other_leaves key not_this (λ e. not_sibling (let back : slab_key sibling ≡ key = cc in sym back)) (λ e. (let never : None ≡ Some key = sym none ∙ e in cc))) old xs has_this has_sibling a.adds;
       }
 
@@ -167,7 +167,7 @@ module _ {K V : Type 0} {P : ℕ} where
       (subst (λ x. x ≢ Nothing) (sym (ap held_leaf a.at_key)) (λ e. cc), (ap (option_and_then previous_key) a.at_key ∙ a.no_previous, ap (option_and_then next_key) a.at_key ∙ a.no_next))
 
   pub sibling-knit : (old now : NodeArena K V P) (done : List (K × V)) (before front : List (LeafPtr K V P)) (entry : K × V) (this sibling : LeafPtr K V P) → before ≡ front ++ sibling ∷ [] → AreKnit now → IsAllocated old now done before entry this → IsKnit now (slab_key sibling)
-  sibling-knit old now done before front entry this sibling split knit a = knit (map slab_key front) [] (slab_key sibling) (subst (Spells now) (ap (map slab_key) split ∙ map-append slab_key front (sibling ∷ [])) a.spelled)
+  sibling-knit old now done before front entry this sibling split knit a = knit (map slab_key front) [] (slab_key sibling) (subst (IsLinkedList now) (ap (map slab_key) split ∙ map-append slab_key front (sibling ∷ [])) a.is_linked)
 
   -- the texts of the last two leaves are neighbours among those of the entries
   pub two-texts : (text : K → List ℕ) (old now : NodeArena K V P) (all done left : List (K × V)) (before front : List (LeafPtr K V P)) (entry : K × V) (this sibling : LeafPtr K V P) → before ≡ front ++ sibling ∷ [] → all ≡ (done ++ entry ∷ []) ++ left → IsAllocated old now done before entry this
@@ -196,7 +196,7 @@ pub record IsLinking {K V : Type 0} {P : ℕ} (old now : NodeArena K V P) (all l
 pub none-linked : {K V : Type 0} {P : ℕ} (old : NodeArena K V P) (leaves : List (LeafPtr K V P)) → leaves ≡ [] → AreLinked old old [] leaves
 none-linked old leaves none = subst (AreLinked old old []) (sym none) (record {
   hold = tt;
-  spelled = record { distinct = tt; spelled = tt };
+  is_linked = record { distinct = tt; is_linked = tt };
   adds = record {
     kept = λ pointer was. refl;
     were_free = λ pointer inside. absurd (omega (arith, inside.1));

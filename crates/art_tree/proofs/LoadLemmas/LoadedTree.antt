@@ -1,7 +1,7 @@
 -- Loading: the loaded tree, from linked leaves and a tree over them.
-use Rattle.art_tree.proofs.Names.{LeafPtr, ◌≡◌, ◌≢◌, ◌∙◌, ℕ, ◌<◌, ◌^◌, List, [], ◌∷◌, length, map, inl, inr, refl, sym, ap, subst, arith, cases_lt, get_or_past, opaque_key, slab_key, OpaqueNodePtr, NodeArena, Nothing, SameNodes, Spells, Tree, AreLoadable, text_of_entry, IsRaised, leaf_pairs, leaf_pointer, AreLinked, HoldEntries, IsLoaded, leaf_pointers}
+use Rattle.art_tree.proofs.Names.{LeafPtr, ◌≡◌, ◌≢◌, ◌∙◌, ℕ, ◌<◌, ◌^◌, List, [], ◌∷◌, length, map, inl, inr, refl, sym, ap, subst, arith, cases_lt, get_or_past, opaque_key, slab_key, OpaqueNodePtr, NodeArena, Nothing, SameNodes, IsLinkedList, Tree, AreLoadable, text_of_entry, IsRaised, leaf_pairs, leaf_pointer, AreLinked, HoldEntries, IsLoaded, leaf_pointers}
 use Rattle.art_tree.proofs.LoadLemmas.LeafLists.{hold-kept, keys-of}
-use Rattle.art_steps.proofs.SharedLemmas.SpelledLists.{Spells-kept}
+use Rattle.art_steps.proofs.SharedLemmas.KeptLists.{IsLinkedList-kept}
 
 -- no text is too long, at any index
 pub all-short : (texts : List (List ℕ)) → AreLoadable texts → (i : ℕ) → length (text_of_entry texts i) < 2 ^ 32
@@ -22,7 +22,7 @@ module _ {K V : Type 0} {P : ℕ} (text : K → List ℕ) (old middle new : Node
         is_tree = record { at_root = r.at_root; stands = r.stands; sound = r.sound };
         smallest_kinds = r.smallest_kinds;
         hold = subst (λ p. HoldEntries new p entries) (sym pointers) (hold-kept middle new r.kept (map leaf_pointer of) entries l.hold);
-        spelled = subst (Spells new) (sym (ap (map opaque_key) pointers ∙ keys-of of)) (Spells-kept middle new r.kept (map slab_key of) l.spelled);
+        is_linked = subst (IsLinkedList new) (sym (ap (map opaque_key) pointers ∙ keys-of of)) (IsLinkedList-kept middle new r.kept (map slab_key of) l.is_linked);
         adds = r.adds old l.adds;
       }
 
@@ -32,7 +32,7 @@ module _ {K V : Type 0} {P : ℕ} (text : K → List ℕ) (old middle new : Node
     is_tree = l.is_tree;
     smallest_kinds = l.smallest_kinds;
     hold = l.hold;
-    spelled = l.spelled;
+    is_linked = l.is_linked;
     adds = record {
       kept = λ pointer was. l.adds.kept pointer (subst (λ h. h ≢ Nothing) (sym (same pointer)) was) ∙ same pointer;
       were_free = λ pointer inside. sym (same pointer) ∙ l.adds.were_free pointer inside;

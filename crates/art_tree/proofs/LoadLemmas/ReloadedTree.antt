@@ -1,6 +1,6 @@
 -- Compaction: the leaves of a tree one after another, and the tree of the same entries.
-use Rattle.art_tree.proofs.Names.{LeafPtr, next-member, knit-member, texts-apart, texts-ascend, ◌≡◌, ◌≢◌, ◌∙◌, ℕ, zero, suc, ◌+◌, ◌<◌, ◌≤◌, ◌^◌, List, [], ◌∷◌, ◌++◌, length, map, take, get_or, slice_get, All, AllPairs, Contains, Option, Some, None, refl, sym, ap, subst, inl, inr, arith, length-append, append_assoc, append-nil, Less, Greater, cases_lt, le-ltb, eqb_tells, get_or-map, length-map, map-append, take_all, take_more, All-nil, All-cons, All-contains, Contains-append_right, same_Some, IsPrefixOf, text_order, leaf_key, leaf_value, opaque_key, opaque_pointer, slab_key, LeafNode, OpaqueNodePtr, NodeArena, Changes, HeldLeaf, Nothing, held, leaf_count, IsAtEnd, AreDistinct, HoldsLeaf, Spells, next_at, text_at, Tree, leaves, texts, First, IsAlone, HasEntry, IsEntry, SameEntries, entry_at, HoldEntries, IsLoaded, leaf_pointers, AreLoadable, Forks, leaf_texts, texts_of, AreLeavesOf, IsReloaded, leaf_pointer, leaf_place, inside_image, LeafKind}
-use Rattle.art_tree.proofs.SharedLemmas.EntryCounts.{spelled-fit}
+use Rattle.art_tree.proofs.Names.{LeafPtr, next-member, knit-member, texts-apart, texts-ascend, ◌≡◌, ◌≢◌, ◌∙◌, ℕ, zero, suc, ◌+◌, ◌<◌, ◌≤◌, ◌^◌, List, [], ◌∷◌, ◌++◌, length, map, take, get_or, slice_get, All, AllPairs, Contains, Option, Some, None, refl, sym, ap, subst, inl, inr, arith, length-append, append_assoc, append-nil, Less, Greater, cases_lt, le-ltb, eqb_tells, get_or-map, length-map, map-append, take_all, take_more, All-nil, All-cons, All-contains, Contains-append_right, same_Some, IsPrefixOf, text_order, leaf_key, leaf_value, opaque_key, opaque_pointer, slab_key, LeafNode, OpaqueNodePtr, NodeArena, Changes, HeldLeaf, Nothing, held, leaf_count, IsAtEnd, AreDistinct, HoldsLeaf, IsLinkedList, next_at, text_at, Tree, leaves, texts, First, IsAlone, HasEntry, IsEntry, SameEntries, entry_at, HoldEntries, IsLoaded, leaf_pointers, AreLoadable, Forks, leaf_texts, texts_of, AreLeavesOf, IsReloaded, leaf_pointer, leaf_place, inside_image, LeafKind}
+use Rattle.art_tree.proofs.SharedLemmas.EntryCounts.{list-fit}
 use Rattle.art_tree.proofs.LoadLemmas.LeafLists.{hold-last, hold-texts, keys-of}
 use Rattle.art_steps.proofs.LoadLemmas.RefusalLemmas.{fork-later}
 use Rattle.art_steps.proofs.SharedLemmas.DictionaryLemmas.{AreApart, alone-loaded, entry-held, held-entry, leaf-held-in, loaded-entry, loaded-text, text-of-entry}
@@ -81,7 +81,7 @@ module _ {K V : Type 0} {P : ℕ} (text : K → List ℕ) (arena : NodeArena K V
         alone = g.alone;
         rest = first.0;
         split = whole ∙ sym (append_assoc (map slab_key of) (slab_key leaf ∷ []) first.0) ∙ ap (λ keys. keys ++ first.0) (sym (map-append slab_key of (leaf ∷ [])));
-        here = is ∙ next-member arena (map slab_key of) first.0 (slab_key leaf) (subst (Spells arena) whole g.alone.spelled);
+        here = is ∙ next-member arena (map slab_key of) first.0 (slab_key leaf) (subst (IsLinkedList arena) whole g.alone.is_linked);
       }
 
   pub gathered-all : (of : List (LeafPtr K V P)) → IsGathered of None → AreLeavesOf text arena root of
@@ -113,16 +113,16 @@ module _ {K V : Type 0} {P : ℕ} (text : K → List ℕ) (arena : NodeArena K V
 
 -- the next leaf is held, and there are more leaves than those so far
 module _ {K V : Type 0} {P : ℕ} {text : K → List ℕ} {arena : NodeArena K V P} {root : OpaqueNodePtr K V P} {of : List (LeafPtr K V P)} {key : ℕ} (g : IsGathered text arena root of (Some key)) where
-  next-keys : (others : List ℕ) × (Spells arena (map slab_key of ++ key ∷ others))
+  next-keys : (others : List ℕ) × (IsLinkedList arena (map slab_key of ++ key ∷ others))
   next-keys =
       let first = at-first key g.rest g.here in
-      (first.0, subst (Spells arena) (g.split ∙ ap (λ rest. map slab_key of ++ rest) first.1) g.alone.spelled)
+      (first.0, subst (IsLinkedList arena) (g.split ∙ ap (λ rest. map slab_key of ++ rest) first.1) g.alone.is_linked)
 
   pub gathered-held : HoldsLeaf arena key
   gathered-held = (knit-member arena (map slab_key of) next-keys.0 key next-keys.1).held
 
   pub gathered-fits : length of < leaf_count arena
-  gathered-fits = omega (arith, spelled-fit arena _ next-keys.1, length-append (map slab_key of) (key ∷ next-keys.0), length-map of (λ (leaf : LeafPtr K V P). slab_key leaf))
+  gathered-fits = omega (arith, list-fit arena _ next-keys.1, length-append (map slab_key of) (key ∷ next-keys.0), length-map of (λ (leaf : LeafPtr K V P). slab_key leaf))
 
 -- the leaves of a tree
 module _ {K V : Type 0} {P : ℕ} {text : K → List ℕ} {arena : NodeArena K V P} {root : OpaqueNodePtr K V P} {of : List (LeafPtr K V P)} (is : AreLeavesOf text arena root of) where
@@ -133,7 +133,7 @@ module _ {K V : Type 0} {P : ℕ} {text : K → List ℕ} {arena : NodeArena K V
   leaves-held = both.1
 
   pub leaves-distinct : AreDistinct (map slab_key of)
-  leaves-distinct = subst AreDistinct (ap (map opaque_key) is.in_order ∙ keys-of of) is.alone.spelled.distinct
+  leaves-distinct = subst AreDistinct (ap (map opaque_key) is.in_order ∙ keys-of of) is.alone.is_linked.distinct
 
   pub leaves-some : 0 < length of
   leaves-some =

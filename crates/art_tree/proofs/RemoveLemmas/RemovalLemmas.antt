@@ -1,5 +1,5 @@
 -- Removal: a leaf that a search finds, and that is removed from its list and from its arena.
-use Rattle.art_tree.proofs.Names.{LeafPtr, ◌≡◌, ◌≢◌, ◌∙◌, ℕ, ◌≤◌, ◌+◌, length, List, [], ◌∷◌, ◌++◌, All, Option, Some, None, refl, sym, ap, subst, inl, inr, arith, Ok, Err, Result, All-cons, All-contains, All-head, All-tail, Contains-append_right, NodeType, least_children, same_or_differ, leaf_key, leaf_value, node_kind, opaque_key, opaque_pointer, OpaqueNodePtr, LeafNode, NodeArena, HeldLeaf, Nothing, held, held_leaf, room, Changes, SameRoom, SameOtherRoom, AreDistinct, HoldsLeaf, IsKnit, SameButLinks, Spells, SpellsAfter, leaf_at, Leaf, IsAlone, IsArt, entry_at, HasOneLess, FreesOne, IsAtPath, IsTaken, StaysAt, IsLeft, RemovesEntry, RemovesFreely, FreesOneEach, leaf_pointer, TreePath, leaf_kind, by_option, the_one, LeafKind, Node16, Node256, Node4, Node48, InnerNode, Root, ReachesLeaf}
+use Rattle.art_tree.proofs.Names.{LeafPtr, ◌≡◌, ◌≢◌, ◌∙◌, ℕ, ◌≤◌, ◌+◌, length, List, [], ◌∷◌, ◌++◌, All, Option, Some, None, refl, sym, ap, subst, inl, inr, arith, Ok, Err, Result, All-cons, All-contains, All-head, All-tail, Contains-append_right, NodeType, least_children, same_or_differ, leaf_key, leaf_value, node_kind, opaque_key, opaque_pointer, OpaqueNodePtr, LeafNode, NodeArena, HeldLeaf, Nothing, held, held_leaf, room, Changes, SameRoom, SameOtherRoom, AreDistinct, HoldsLeaf, IsKnit, SameButLinks, IsLinkedList, IsLinkedAfter, leaf_at, Leaf, IsAlone, IsArt, entry_at, HasOneLess, FreesOne, IsAtPath, IsTaken, StaysAt, IsLeft, RemovesEntry, RemovesFreely, FreesOneEach, leaf_pointer, TreePath, leaf_kind, by_option, the_one, LeafKind, Node16, Node256, Node4, Node48, InnerNode, Root, ReachesLeaf}
 use Rattle.art_steps.proofs.SharedLemmas.DictionaryLemmas.{empty-entry, held-entry, leaf-of-entry}
 use Rattle.art_steps.proofs.InsertLemmas.NodeLemmas.{one-leaf}
 use Rattle.art_steps.proofs.SharedLemmas.RoomLemmas.{same-capacity, same-room}
@@ -29,15 +29,15 @@ module _ {K V : Type 0} {P : ℕ} (old linked : NodeArena K V P) (this : ℕ) (s
       λ i. ((key ∙ ap leaf_key one ∙ after.2) i, (value ∙ ap leaf_value one ∙ after.3) i)
 
   module _ (new : NodeArena K V P) (changes : Changes linked new (opaque_pointer LeafKind this) Nothing) where
-    -- a list without the leaf is spelled on
-    spells-without : (before : Option ℕ) (keys : List ℕ) → All (λ other. other ≢ this) keys → SpellsAfter linked before keys → SpellsAfter new before keys
-    spells-without before [] apart spelled = tt
-    spells-without before (key ∷ keys) apart ((leaf, at, previous, next), rest) =
+    -- a list without the leaf stays linked
+    list-less : (before : Option ℕ) (keys : List ℕ) → All (λ other. other ≢ this) keys → IsLinkedAfter linked before keys → IsLinkedAfter new before keys
+    list-less before [] apart is_linked = tt
+    list-less before (key ∷ keys) apart ((leaf, at, previous, next), rest) =
         let other : opaque_pointer {K = K} {V = V} {P = P} LeafKind key ≢ opaque_pointer LeafKind this = λ one. All-head (λ k. k ≢ this) key keys apart (ap opaque_key one) in
-        ((leaf, leaf-of (leaf_at new key) leaf (changes.others (opaque_pointer LeafKind key) other ∙ ap held_leaf at), previous, next), spells-without (Some key) keys (All-tail (λ k. k ≢ this) key keys apart) rest)
+        ((leaf, leaf-of (leaf_at new key) leaf (changes.others (opaque_pointer LeafKind key) other ∙ ap held_leaf at), previous, next), list-less (Some key) keys (All-tail (λ k. k ≢ this) key keys apart) rest)
 
-    pub left-spelled : (left right : List ℕ) → Spells old (left ++ this ∷ right) → Spells linked (left ++ right) → Spells new (left ++ right)
-    left-spelled left right was is = record { distinct = is.distinct; spelled = spells-without None (left ++ right) (apart-from left this right was.distinct) is.spelled }
+    pub left-list : (left right : List ℕ) → IsLinkedList old (left ++ this ∷ right) → IsLinkedList linked (left ++ right) → IsLinkedList new (left ++ right)
+    left-list left right was is = record { distinct = is.distinct; is_linked = list-less None (left ++ right) (apart-from left this right was.distinct) is.is_linked }
 
     -- all else stays
     pub others-left : (pointer : OpaqueNodePtr K V P) → pointer ≢ opaque_pointer LeafKind this → StaysAt old new pointer

@@ -1,8 +1,8 @@
 -- Removal: a leaf of a node of more than two children.
-use Rattle.art_tree.proofs.Names.{◌≡◌, ◌≢◌, ◌↔◌, ◌⊎◌, ◌∙◌, Bool, IsTrue, ℕ, ◌+◌, ◌<◌, ◌≤◌, List, [], ◌∷◌, ◌++◌, length, Contains, Option, Some, None, refl, sym, ap, subst, inl, inr, arith, Contains-append_right, kind_for, least_children, shrunk_kind, NodeType, child_at, without_child, node_kind, opaque_key, OpaqueNodePtr, LeafNode, NodeArena, HeldInner, HeldLeaf, Nothing, held, room, AllStandIn, Tree, Leaf, Inner, Branch, branch_roots, branch_leaves, branch_places, path_to, KeepsAt, join, HasOneLess, HasRoomToShrink, TellsFewest, HangsUnder, IsTaken, CanHang, IsHung, above, IsRemoved, NeedsSmallerNode, leaf_kind, one-inner, LeafKind, Node16, Node256, Node4, Node48, InnerNode, node_without_child}
+use Rattle.art_tree.proofs.Names.{◌≡◌, ◌≢◌, ◌↔◌, ◌⊎◌, ◌∙◌, Bool, IsTrue, ℕ, ◌+◌, ◌<◌, ◌≤◌, List, [], ◌∷◌, ◌++◌, length, Contains, Option, Some, None, refl, sym, ap, subst, inl, inr, arith, Contains-append_right, kind_for, least_children, shrunk_kind, NodeType, child_at, without_child, node_kind, opaque_key, OpaqueNodePtr, LeafNode, NodeArena, HeldInner, HeldLeaf, Nothing, held, room, AllStandIn, Tree, Leaf, Inner, Branch, branch_roots, branch_leaves, branch_places, path_to, KeepsAt, join, HasOneLess, HasRoomToShrink, WhetherFewest, HasParents, IsTaken, HasChildUnder, IsChildOrRoot, above, IsRemoved, NeedsSmallerNode, leaf_kind, one-inner, LeafKind, Node16, Node256, Node4, Node48, InnerNode, node_without_child}
 use Rattle.art_steps.proofs.SharedLemmas.BranchLemmas.{leaves-join, places-join, roots-join}
 use Rattle.art_steps.proofs.SharedLemmas.ChangedTree.{held-on, place-held}
-use Rattle.art_tree.proofs.RemoveLemmas.RemovedLeaf.{AreRemovalSteps, HasDropped, can-hang, leaf-removed, inside-kept, last-inside, top-last}
+use Rattle.art_tree.proofs.RemoveLemmas.RemovedLeaf.{AreRemovalSteps, HasDropped, has-child_under, leaf-removed, inside-kept, last-inside, top-last}
 use Rattle.art_tree.proofs.RemoveLemmas.RemainingTree.{dropped-child, dropped-roots, dropped-sound, left-smallest_kinds}
 use Rattle.art_steps.proofs.SharedLemmas.ExchangedSubtree.{kept-branches}
 use Rattle.art_tree.proofs.RemoveLemmas.LeafParent.{LeafPlace, is-other, part_there, place-cases}
@@ -17,7 +17,7 @@ shrunk-inner Node48 inner = λ e. cc
 shrunk-inner Node256 inner = λ e. cc
 shrunk-inner LeafKind inner = absurd (inner refl)
 
-module _ {K V : Type 0} {P : ℕ} {text : K → List ℕ} {old : NodeArena K V P} {root leaf parent : OpaqueNodePtr K V P} {byte : ℕ} {higher : Option (OpaqueNodePtr K V P × ℕ)} {tree : Tree (OpaqueNodePtr K V P)} {hangs : HangsUnder tree leaf parent byte higher} (place : LeafPlace text old root hangs) where
+module _ {K V : Type 0} {P : ℕ} {text : K → List ℕ} {old : NodeArena K V P} {root leaf parent : OpaqueNodePtr K V P} {byte : ℕ} {higher : Option (OpaqueNodePtr K V P × ℕ)} {tree : Tree (OpaqueNodePtr K V P)} {parents : HasParents tree leaf parent byte higher} (place : LeafPlace text old root parents) where
   -- a node that would be of a smaller kind without the leaf has 5, 17 or 49 children
   least-counts : (kind : NodeType) → kind ≢ LeafKind → 2 < length place.node.children → length place.node.children ≡ least_children kind → (length place.node.children ≡ 5) ⊎ ((length place.node.children ≡ 17) ⊎ (length place.node.children ≡ 49))
   least-counts Node4 inner two least = absurd (omega (arith, two, least))
@@ -26,7 +26,7 @@ module _ {K V : Type 0} {P : ℕ} {text : K → List ℕ} {old : NodeArena K V P
   least-counts Node256 inner two least = inr (inr least)
   least-counts LeafKind inner two least = absurd (inner refl)
 
-  pub needs-smaller : ((node : InnerNode (OpaqueNodePtr K V P)) → held old parent ≡ HeldInner node → (2 < length node.children) × (length node.children ≡ least_children (node_kind parent))) → NeedsSmallerNode text old hangs.text
+  pub needs-smaller : ((node : InnerNode (OpaqueNodePtr K V P)) → held old parent ≡ HeldInner node → (2 < length node.children) × (length node.children ≡ least_children (node_kind parent))) → NeedsSmallerNode text old parents.text
   needs-smaller few =
       let has = few place.node place.is_held in
       record {
@@ -38,7 +38,7 @@ module _ {K V : Type 0} {P : ℕ} {text : K → List ℕ} {old : NodeArena K V P
         node = place.node;
         parent_held = place.is_held;
         byte = byte;
-        hangs = subst (λ children. Contains children (byte, leaf)) (sym (place.shows.children ∙ roots-join hangs.before (Branch byte (Leaf leaf hangs.text) hangs.after))) (Contains-append_right (branch_roots hangs.before) ((byte, leaf) ∷ branch_roots hangs.after) (byte, leaf) (0, omega arith, refl));
+        is_child = subst (λ children. Contains children (byte, leaf)) (sym (place.shows.children ∙ roots-join parents.before (Branch byte (Leaf leaf parents.text) parents.after))) (Contains-append_right (branch_roots parents.before) ((byte, leaf) ∷ branch_roots parents.after) (byte, leaf) (0, omega arith, refl));
         count = least-counts (node_kind parent) place.inner has.0 has.1;
       }
 
@@ -49,7 +49,7 @@ module _ {K V : Type 0} {P : ℕ} {text : K → List ℕ} {old : NodeArena K V P
       omega (arith, same, many, ap length place.shows.children, place.sound.0)
 
   -- where no smaller kind is needed, the node has more than the fewest children of its kind
-  pub not-least : length place.node.children ≢ 2 → (¬ NeedsSmallerNode text old hangs.text) → (node : InnerNode (OpaqueNodePtr K V P)) → held old parent ≡ HeldInner node → length node.children ≢ least_children (node_kind parent)
+  pub not-least : length place.node.children ≢ 2 → (¬ NeedsSmallerNode text old parents.text) → (node : InnerNode (OpaqueNodePtr K V P)) → held old parent ≡ HeldInner node → length node.children ≢ least_children (node_kind parent)
   not-least many enough node is least =
       enough (needs-smaller (λ other there. (more-than-two many other there, ap (λ n. length n.children) (one-inner (held old parent) other node there is) ∙ least)))
 
@@ -64,10 +64,10 @@ module _ {K V : Type 0} {P : ℕ} {text : K → List ℕ} {old : NodeArena K V P
     pub child-there : (node : InnerNode (OpaqueNodePtr K V P)) → held without parent ≡ HeldInner node → child_at node.children byte ≢ None
     child-there node is none =
         let same = one-inner (held without parent) place.node node parent-is is in
-        let some = ap (λ n. child_at n.children byte) (sym same) ∙ ap (λ children. child_at children byte) place.shows.children ∙ dropped-child hangs.before byte (Leaf leaf hangs.text) hangs.after place.sound.1 in
+        let some = ap (λ n. child_at n.children byte) (sym same) ∙ ap (λ children. child_at children byte) place.shows.children ∙ dropped-child parents.before byte (Leaf leaf parents.text) parents.after place.sound.1 in
         let wrong : Some leaf ≡ None = sym some ∙ none in absurd (cc)
 
-    pub tells-fewest : {fewest : Bool} → TellsFewest old parent fewest → TellsFewest without parent fewest
+    pub tells-fewest : {fewest : Bool} → WhetherFewest old parent fewest → WhetherFewest without parent fewest
     tells-fewest {fewest = fewest} tells node is = subst (λ n. IsTrue fewest ↔ (length n.children ≡ least_children (node_kind parent))) (one-inner (held without parent) place.node node parent-is is) (tells place.node place.is_held)
 
     module _ (many : length place.node.children ≢ 2) where
@@ -107,7 +107,7 @@ module _ {K V : Type 0} {P : ℕ} {text : K → List ℕ} {old : NodeArena K V P
           | inr shrunk ↦ (let now = (taken.others top top-apart).keeps.leaf l is in let wrong : HeldLeaf now.0 ≡ Nothing = sym now.1 ∙ shrunk.replaced.was_free in absurd (cc))
         ]
 
-        abbrev many-steps : AreRemovalSteps text old without new hangs.upper (part_there hangs) root leaf top
+        abbrev many-steps : AreRemovalSteps text old without new parents.upper (part_there parents) root leaf top
         many-steps = record {
           stood = place.alone.is_tree.stands;
           sound = place.alone.is_tree.sound;
@@ -123,63 +123,63 @@ module _ {K V : Type 0} {P : ℕ} {text : K → List ℕ} {old : NodeArena K V P
           same = λ p not_top not_parent. elim less [ inl cutting ↦ cutting.changes.others p not_parent | inr shrunk ↦ shrunk.replaced.others p not_top not_parent ];
         }
 
-        pub many-hangs : CanHang new higher parent
-        many-hangs = subst (λ above. CanHang new above parent) hangs.hangs (can-hang text old without new hangs.upper (part_there hangs) root leaf top many-steps)
+        pub many-has_child : HasChildUnder new higher parent
+        many-has_child = subst (λ above. HasChildUnder new above parent) parents.parent_is (has-child_under text old without new parents.upper (part_there parents) root leaf top many-steps)
 
-        module _ (last : NodeArena K V P) (root_now : OpaqueNodePtr K V P) (hung : IsHung new last higher top root root_now) where
-          hung-there : IsHung new last (above hangs.upper) top root root_now
-          hung-there = subst (λ h. IsHung new last h top root root_now) (sym hangs.hangs) hung
+        module _ (last : NodeArena K V P) (root_now : OpaqueNodePtr K V P) (child_or_root : IsChildOrRoot new last higher top root root_now) where
+          child_or_root-there : IsChildOrRoot new last (above parents.upper) top root root_now
+          child_or_root-there = subst (λ h. IsChildOrRoot new last h top root root_now) (sym parents.parent_is) child_or_root
 
           abbrev now_there : Tree (OpaqueNodePtr K V P)
-          now_there = Inner top hangs.prefix (join hangs.before hangs.after)
+          now_there = Inner top parents.prefix (join parents.before parents.after)
 
           leaf-last : held last leaf ≡ Nothing
-          leaf-last = last-inside text old without new hangs.upper (part_there hangs) root leaf top many-steps last root_now hung-there leaf place.inside ∙ many-steps.same leaf (λ same. top-apart (sym same)) (λ same. place.apart (sym same)) ∙ taken.gone
+          leaf-last = last-inside text old without new parents.upper (part_there parents) root leaf top many-steps last root_now child_or_root-there leaf place.inside ∙ many-steps.same leaf (λ same. top-apart (sym same)) (λ same. place.apart (sym same)) ∙ taken.gone
 
-          others-stand : AllStandIn text last (join hangs.before hangs.after)
+          others-stand : AllStandIn text last (join parents.before parents.after)
           others-stand =
-              let kept : (q : OpaqueNodePtr K V P) → Contains (branch_places hangs.before ++ branch_places hangs.after) q → KeepsAt old last q =
+              let kept : (q : OpaqueNodePtr K V P) → Contains (branch_places parents.before ++ branch_places parents.after) q → KeepsAt old last q =
               λ q inside.
-              let is = is-other hangs place.distinct q inside in
-              inside-kept text old without new hangs.upper (part_there hangs) root leaf top many-steps last root_now hung-there q is.inside is.not_leaf (λ same. elim less [
+              let is = is-other parents place.distinct q inside in
+              inside-kept text old without new parents.upper (part_there parents) root leaf top many-steps last root_now child_or_root-there q is.inside is.not_leaf (λ same. elim less [
                 | inl cutting ↦ is.not_parent (same ∙ cutting.same)
-                | inr shrunk ↦ held-on old without q (taken.others q is.not_leaf) (place-held text old (part_there hangs) place.stands q is.inside) (ap (held without) same ∙ shrunk.replaced.was_free)
+                | inr shrunk ↦ held-on old without q (taken.others q is.not_leaf) (place-held text old (part_there parents) place.stands q is.inside) (ap (held without) same ∙ shrunk.replaced.was_free)
               ]) is.not_parent in
-              kept-branches text old last (join hangs.before hangs.after) place.others_stand (λ q inside. kept q (subst (λ all. Contains all q) (places-join hangs.before hangs.after) inside))
+              kept-branches text old last (join parents.before parents.after) place.others_stand (λ q inside. kept q (subst (λ all. Contains all q) (places-join parents.before parents.after) inside))
 
-          many-dropped : HasDropped text old without new hangs.upper (part_there hangs) root leaf top many-steps last root_now hung-there now_there hangs.text (branch_leaves hangs.before) (branch_leaves hangs.after)
+          many-dropped : HasDropped text old without new parents.upper (part_there parents) root leaf top many-steps last root_now child_or_root-there now_there parents.text (branch_leaves parents.before) (branch_leaves parents.after)
           many-dropped = record {
             at_root = refl;
             stands = (
               node_without_child place.node byte,
-              top-last text old without new hangs.upper (part_there hangs) root leaf top many-steps last root_now hung-there ∙ top-held,
+              top-last text old without new parents.upper (part_there parents) root leaf top many-steps last root_now child_or_root-there ∙ top-held,
               record {
                 prefix_len = place.shows.prefix_len;
                 stored = place.shows.stored;
-                children = ap (λ children. without_child children byte) place.shows.children ∙ dropped-roots hangs.before byte (Leaf leaf hangs.text) hangs.after place.sound.1;
+                children = ap (λ children. without_child children byte) place.shows.children ∙ dropped-roots parents.before byte (Leaf leaf parents.text) parents.after place.sound.1;
               },
               others-stand,
             );
-            sound = dropped-sound hangs.before byte (Leaf leaf hangs.text) hangs.after (path_to hangs.upper) hangs.prefix parent place.sound top (omega (arith, three, place.count));
-            smallest_kinds = (top-kind, left-smallest_kinds hangs.before byte (Leaf leaf hangs.text) hangs.after place.smallest_kinds.1);
-            was = leaves-taken hangs.prefix parent hangs.before byte leaf hangs.text hangs.after;
-            is = leaves-join hangs.before hangs.after;
-            spelled = taken.spelled _ _ place.spelled;
-            freed = λ p inside. elim (place-cases hangs p inside) [
+            sound = dropped-sound parents.before byte (Leaf leaf parents.text) parents.after (path_to parents.upper) parents.prefix parent place.sound top (omega (arith, three, place.count));
+            smallest_kinds = (top-kind, left-smallest_kinds parents.before byte (Leaf leaf parents.text) parents.after place.smallest_kinds.1);
+            was = leaves-taken parents.prefix parent parents.before byte leaf parents.text parents.after;
+            is = leaves-join parents.before parents.after;
+            is_linked = taken.is_linked _ _ place.is_linked;
+            freed = λ p inside. elim (place-cases parents p inside) [
               | inl at ↦ elim less [
                 | inl cutting ↦ inl (0, omega arith, cutting.same ∙ sym at)
-                | inr shrunk ↦ inr (last-inside text old without new hangs.upper (part_there hangs) root leaf top many-steps last root_now hung-there p inside ∙ ap (held new) at ∙ shrunk.replaced.is_free)
+                | inr shrunk ↦ inr (last-inside text old without new parents.upper (part_there parents) root leaf top many-steps last root_now child_or_root-there p inside ∙ ap (held new) at ∙ shrunk.replaced.is_free)
               ]
               | inr rest ↦ elim rest [
                 | inl own ↦ inr (ap (held last) own ∙ leaf-last)
-                | inr other ↦ inl (Contains-append_right (top ∷ []) (branch_places (join hangs.before hangs.after)) p (subst (λ all. Contains all p) (sym (places-join hangs.before hangs.after)) other))
+                | inr other ↦ inl (Contains-append_right (top ∷ []) (branch_places (join parents.before parents.after)) p (subst (λ all. Contains all p) (sym (places-join parents.before parents.after)) other))
               ]
             ];
           }
             where
-              top-kind : node_kind top ≡ kind_for (length (branch_roots (join hangs.before hangs.after)))
+              top-kind : node_kind top ≡ kind_for (length (branch_roots (join parents.before parents.after)))
               top-kind =
-                  let left = length (branch_roots (join hangs.before hangs.after)) in
+                  let left = length (branch_roots (join parents.before parents.after)) in
                   let kind : node_kind parent ≡ kind_for (left + 1) = kind-there ∙ ap kind_for place.count in
                   elim less [
                     | inl cutting ↦ ap node_kind cutting.same ∙ kind-lasts left (node_kind parent) kind (subst (λ m. least_children (node_kind parent) < m) place.count cutting.many)
@@ -187,7 +187,7 @@ module _ {K V : Type 0} {P : ℕ} {text : K → List ℕ} {old : NodeArena K V P
                   ]
 
           -- the tree has all entries but that of the leaf
-          pub many-removed : IsRemoved text old last hangs.text (Some root_now) entry
+          pub many-removed : IsRemoved text old last parents.text (Some root_now) entry
           many-removed =
-              leaf-removed text old without new hangs.upper (part_there hangs) root leaf top many-steps last root_now hung-there now_there hangs.text (branch_leaves hangs.before) (branch_leaves hangs.after) many-dropped
+              leaf-removed text old without new parents.upper (part_there parents) root leaf top many-steps last root_now child_or_root-there now_there parents.text (branch_leaves parents.before) (branch_leaves parents.after) many-dropped
               place.alone entry (place.entry ∙ ap Some (sym (taken.entry place.own place.own_held)))

@@ -1,6 +1,6 @@
 -- Removal: a tree with one leaf less, after the steps of a removal.
-use Rattle.art_tree.proofs.Names.{◌≡◌, ◌≢◌, ◌⊎◌, ◌∙◌, ℕ, ◌<◌, ◌^◌, List, ◌∷◌, ◌++◌, length, map, All, Contains, Some, refl, sym, ap, subst, inl, inr, arith, append_assoc, Option, map-append, All-append, All-tail, Contains-append_right, opaque_pointer, leaf_key, OpaqueNodePtr, LeafNode, NodeArena, HeldLeaf, Nothing, held, held_leaf, SameNodes, AreDistinct, Spells, leaf_at, StandsIn, Tree, leaves, places, root_of, texts, IsSound, IsWellFormed, IsAlone, Context, plug, path_to, leaves_before, leaves_after, parent, Adopts, KeepsAt, IsExchanged, entry_at, StaysAt, CanHang, IsHung, HasSmallestKinds, above, IsRemoved, all_left, all_right, LeafKind}
-use Rattle.art_steps.proofs.SharedLemmas.ChangedTree.{HangsAt, IsAbove, can-hang-at, hangs-at, held-on, keeps-on, leaf-no-parent, parent-above, place-held, root-place, was-leaf}
+use Rattle.art_tree.proofs.Names.{◌≡◌, ◌≢◌, ◌⊎◌, ◌∙◌, ℕ, ◌<◌, ◌^◌, List, ◌∷◌, ◌++◌, length, map, All, Contains, Some, refl, sym, ap, subst, inl, inr, arith, append_assoc, Option, map-append, All-append, All-tail, Contains-append_right, opaque_pointer, leaf_key, OpaqueNodePtr, LeafNode, NodeArena, HeldLeaf, Nothing, held, held_leaf, SameNodes, AreDistinct, IsLinkedList, leaf_at, StandsIn, Tree, leaves, places, root_of, texts, IsSound, IsWellFormed, IsAlone, Context, plug, path_to, leaves_before, leaves_after, parent, Adopts, KeepsAt, IsExchanged, entry_at, StaysAt, HasChildUnder, IsChildOrRoot, HasSmallestKinds, above, IsRemoved, all_left, all_right, LeafKind}
+use Rattle.art_steps.proofs.SharedLemmas.ChangedTree.{IsAbove, IsPutAt, has-child_under-at, held-on, is-put-at, keeps-on, leaf-no-parent, parent-above, place-held, root-place, was-leaf}
 use Rattle.art_steps.proofs.SharedLemmas.DictionaryLemmas.{AreApart, leaf-held-in}
 use Rattle.art_tree.proofs.RemoveLemmas.RemainingTree.{gone-entry}
 use Rattle.art_steps.proofs.SharedLemmas.ExchangedSubtree.{in-part, leaves-plug}
@@ -8,7 +8,7 @@ use Rattle.art_steps.proofs.InsertLemmas.GapLemmas.{keys_of, keys-append}
 use Rattle.art_steps.proofs.SharedLemmas.ExchangedTree.{alone-grown, entries-but, entries-stay, leaf-stays, leaf-was, texts-part}
 use Rattle.art_steps.proofs.InsertLemmas.NodeLemmas.{one-leaf, some-inner}
 use Rattle.art_links.proofs.HeldNodes.{cases_pointer, leaf-of}
-use Rattle.art_steps.proofs.SharedLemmas.SpelledLists.{spells-on}
+use Rattle.art_steps.proofs.SharedLemmas.KeptLists.{list-on}
 use Rattle.art_tree.proofs.SharedLemmas.TreeLaws.{apart-there}
 
 -- the steps of a removal: from the first arena to the next a leaf is removed, from there to the
@@ -59,26 +59,26 @@ module _ {K V : Type 0} {P : ℕ} (text : K → List ℕ) (old without new : Nod
         let was = parent-held p is in
         steps.same p (outside-top p was at.outside) (outside-node p at.outside) ∙ (steps.stays p (outside-not p was at.outside)).keeps.inner at.node at.is ∙ sym at.is
 
-    pub can-hang : CanHang new (above context) (root_of part)
-    can-hang = can-hang-at text old new context part steps.stood steps.sound parent-kept
+    pub has-child_under : HasChildUnder new (above context) (root_of part)
+    has-child_under = has-child_under-at text old new context part steps.stood steps.sound parent-kept
 
-    module _ (last : NodeArena K V P) (root_now : OpaqueNodePtr K V P) (hung : IsHung new last (above context) top root root_now) where
-      hangs : HangsAt old new last context top root_now part
-      hangs = hangs-at text old new last context part top root root_now steps.stood steps.was_root parent-kept hung
+    module _ (last : NodeArena K V P) (root_now : OpaqueNodePtr K V P) (child_or_root : IsChildOrRoot new last (above context) top root root_now) where
+      is_put : IsPutAt old new last context top root_now part
+      is_put = is-put-at text old new last context part top root root_now steps.stood steps.was_root parent-kept child_or_root
 
       -- what is outside of the part is kept to the end, but for the parent
       pub outside-kept : (p : OpaqueNodePtr K V P) → held old p ≢ Nothing → (Contains (places part) p → ⊥) → parent context ≢ Some p → KeepsAt old last p
-      outside-kept p was outside away = keeps-on old without last p (steps.stays p (outside-not p was outside)) (hangs.others p away ∙ steps.same p (outside-top p was outside) (outside-node p outside))
+      outside-kept p was outside away = keeps-on old without last p (steps.stays p (outside-not p was outside)) (is_put.others p away ∙ steps.same p (outside-top p was outside) (outside-node p outside))
 
       -- and what is in it, but for the leaf, its parent, and the node that is put there
       pub inside-kept : (p : OpaqueNodePtr K V P) → Contains (places part) p → p ≢ leaf → p ≢ top → p ≢ root_of part → KeepsAt old last p
-      inside-kept p inside not_leaf not_top not_node = keeps-on old without last p (steps.stays p not_leaf) (hangs.others p (not-parent p inside) ∙ steps.same p not_top not_node)
+      inside-kept p inside not_leaf not_top not_node = keeps-on old without last p (steps.stays p not_leaf) (is_put.others p (not-parent p inside) ∙ steps.same p not_top not_node)
 
       pub last-inside : (p : OpaqueNodePtr K V P) → Contains (places part) p → held last p ≡ held new p
-      last-inside p inside = hangs.others p (not-parent p inside)
+      last-inside p inside = is_put.others p (not-parent p inside)
 
       pub top-last : held last top ≡ held new top
-      top-last = hangs.others top (λ is. elim steps.top_was [
+      top-last = is_put.others top (λ is. elim steps.top_was [
         | inl inside ↦ not-parent top inside is
         | inr free ↦ held-on old without top (steps.stays top steps.other) (parent-held top is) free
       ])
@@ -87,8 +87,8 @@ module _ {K V : Type 0} {P : ℕ} (text : K → List ℕ) (old without new : Nod
       leaf-same p l is other =
           let away = leaf-no-parent text old context part steps.stood steps.distinct p l is in
           elim (cases_pointer p top) [
-            | inl same ↦ hangs.others p away ∙ ap (held new) same ∙ steps.top_leaf l (ap (held old) (sym same) ∙ is) ∙ ap (held without) (sym same)
-            | inr differ ↦ hangs.others p away ∙ steps.same p differ (λ same. steps.node_inner l (ap (held old) (sym same) ∙ is))
+            | inl same ↦ is_put.others p away ∙ ap (held new) same ∙ steps.top_leaf l (ap (held old) (sym same) ∙ is) ∙ ap (held without) (sym same)
+            | inr differ ↦ is_put.others p away ∙ steps.same p differ (λ same. steps.node_inner l (ap (held old) (sym same) ∙ is))
           ]
 
       -- every other leaf is kept
@@ -99,12 +99,12 @@ module _ {K V : Type 0} {P : ℕ} (text : K → List ℕ) (old without new : Nod
       fresh-last p is free = elim (cases_pointer p top) [
         | inl same ↦ same
         | inr differ ↦ absurd (is (
-            hangs.others p (λ is_above. parent-held p is_above free) ∙ steps.same p differ (λ same. part-held (root_of part) (root-place part) (ap (held old) (sym same) ∙ free))
+            is_put.others p (λ is_above. parent-held p is_above free) ∙ steps.same p differ (λ same. part-held (root_of part) (root-place part) (ap (held old) (sym same) ∙ free))
             ∙ (steps.stays p (λ same. part-held leaf steps.inside (ap (held old) (sym same) ∙ free))).nothing free
             ))
       ]
 
-      -- lists of leaves are spelled on to the end
+      -- lists of leaves stay linked to the end
       leaf-at-last : (k : ℕ) (l : LeafNode K V P) → leaf_at without k ≡ Some l → leaf_at last k ≡ Some l
       leaf-at-last k l at =
           let p = opaque_pointer LeafKind k in
@@ -122,7 +122,7 @@ module _ {K V : Type 0} {P : ℕ} (text : K → List ℕ) (old without new : Nod
           pub smallest_kinds : HasSmallestKinds now
           pub was : leaves part ≡ lefts ++ (leaf, x) ∷ rights
           pub is : leaves now ≡ lefts ++ rights
-          pub spelled : Spells without (keys_of (leaves_before context ++ lefts) ++ keys_of (rights ++ leaves_after context))
+          pub is_linked : IsLinkedList without (keys_of (leaves_before context ++ lefts) ++ keys_of (rights ++ leaves_after context))
           pub freed : (p : OpaqueNodePtr K V P) → Contains (places part) p → Contains (places now) p ⊎ (held last p ≡ Nothing)
 
         module _ (has : HasDropped) where
@@ -156,7 +156,7 @@ module _ {K V : Type 0} {P : ℕ} (text : K → List ℕ) (old without new : Nod
           exchanged = record {
             stood = steps.stood;
             stands = has.stands;
-            adopted = subst (Adopts old last context) (sym has.at_root) hangs.adopted;
+            adopted = subst (Adopts old last context) (sym has.at_root) is_put.adopted;
             others = λ p inside outside away. outside-kept p (place-held text old (plug context part) steps.stood p inside) outside away;
           }
 
@@ -164,10 +164,10 @@ module _ {K V : Type 0} {P : ℕ} (text : K → List ℕ) (old without new : Nod
           left-alone alone =
               let whole = alone-grown text old last root context part now alone steps.distinct exchanged has.sound has.smallest_kinds
               (fewer-texts (λ y. length y < 2 ^ 32) (texts-part (λ y. length y < 2 ^ 32) context part alone.short))
-              (subst (Spells last) (sym (ap keys_of whole-is ∙ keys-append left right)) (spells-on without last leaf-at-last _ has.spelled))
+              (subst (IsLinkedList last) (sym (ap keys_of whole-is ∙ keys-append left right)) (list-on without last leaf-at-last _ has.is_linked))
               (λ p is free. subst (Contains (places now)) (has.at_root ∙ sym (fresh-last p is free)) (root-place now))
               has.freed in
-              subst (λ r. IsAlone text last r (plug context now)) (hangs.at_root now has.at_root) whole
+              subst (λ r. IsAlone text last r (plug context now)) (is_put.at_root now has.at_root) whole
 
           -- a leaf with another text is not the removed one
           other-leaf : IsAlone text old root (plug context part) → (p : OpaqueNodePtr K V P) (l : LeafNode K V P) → held old p ≡ HeldLeaf l → text (leaf_key l) ≢ x → p ≢ leaf

@@ -1,5 +1,5 @@
 -- Removal: the way to a leaf as the place of that leaf in the tree.
-use Rattle.art_tree.proofs.Names.{◌≡◌, ◌∙◌, ℕ, List, [], ◌∷◌, ◌++◌, Option, Some, None, refl, sym, ap, inl, inr, append_assoc, append-nil, same_Some, OpaqueNodePtr, Tree, Leaf, Inner, Branches, NoBranch, Branch, Context, Whole, Under, plug, join, HangsUnder, HasLeafAt, IsAtPath, steps_to, path_of, above, IsWay, IsWayUnder, TreePath, Root, ChildOfRoot, Normal}
+use Rattle.art_tree.proofs.Names.{◌≡◌, ◌∙◌, ℕ, List, [], ◌∷◌, ◌++◌, Option, Some, None, refl, sym, ap, inl, inr, append_assoc, append-nil, same_Some, OpaqueNodePtr, Tree, Leaf, Inner, Branches, NoBranch, Branch, Context, Whole, Under, plug, join, HasParents, HasLeafAt, IsAtPath, steps_to, path_of, above, IsWay, IsWayUnder, TreePath, Root, ChildOfRoot, Normal}
 use Rattle.art_steps.proofs.SharedLemmas.BranchLemmas.{one_branch, join_assoc}
 use Rattle.art_search.proofs.PathSteps.{path_of-visit, visited}
 
@@ -10,7 +10,7 @@ pub record IsUnder {H : Type 0} (context : Context H) (parent : H) (byte : ℕ) 
   pub before : Branches H
   pub after : Branches H
   pub is : context ≡ Under upper parent prefix before byte after
-  pub hangs : above upper ≡ higher
+  pub parent_is : above upper ≡ higher
 
 module _ {H : Type 0} where
   mutual
@@ -54,15 +54,15 @@ module _ {H : Type 0} where
   way-context tree steps pointer way = way-from Whole tree steps pointer way
 
   -- a leaf is under its parent, where its place is
-  abbrev hangs-under : (tree : Tree H) (steps : List (H × ℕ)) (pointer parent : H) (byte : ℕ) (higher : Option (H × ℕ)) (leaf : HasLeafAt tree steps pointer) → IsUnder leaf.context parent byte higher → HangsUnder tree pointer parent byte higher
-  hangs-under tree steps pointer parent byte higher leaf under = record {
+  abbrev has-parents : (tree : Tree H) (steps : List (H × ℕ)) (pointer parent : H) (byte : ℕ) (higher : Option (H × ℕ)) (leaf : HasLeafAt tree steps pointer) → IsUnder leaf.context parent byte higher → HasParents tree pointer parent byte higher
+  has-parents tree steps pointer parent byte higher leaf under = record {
     upper = under.upper;
     prefix = under.prefix;
     before = under.before;
     after = under.after;
     text = leaf.text;
     whole = ap (λ context. plug context (Leaf pointer leaf.text)) (sym under.is) ∙ leaf.whole;
-    hangs = under.hangs;
+    parent_is = under.parent_is;
   }
 
 module _ {K V : Type 0} {P : ℕ} where
@@ -115,7 +115,7 @@ module _ {K V : Type 0} {P : ℕ} where
         before = before;
         after = after;
         is = ap (λ s. Under upper s.0 prefix before s.1 after) step;
-        hangs = above-before upper pointer b ∙ ap step_before is;
+        parent_is = above-before upper pointer b ∙ ap step_before is;
       }
 
   module _ (tree : Tree (OpaqueNodePtr K V P)) (pointer : OpaqueNodePtr K V P) (x : List ℕ) where
@@ -124,12 +124,12 @@ module _ {K V : Type 0} {P : ℕ} where
     leaf-root (steps, leaf, has, is) = sym leaf.whole ∙ ap (λ context. plug context (Leaf pointer leaf.text)) (path-root leaf.context (ap path_of leaf.same ∙ sym is)) ∙ ap (Leaf pointer) has
 
     -- any other leaf is a child of the node of the last step
-    leaf-under : (path : TreePath K V P) (parent : OpaqueNodePtr K V P) (byte : ℕ) → IsAtPath tree pointer path x → last_step path ≡ Some (parent, byte) → (hangs : HangsUnder tree pointer parent byte (step_before path)) × (hangs.text ≡ x)
+    leaf-under : (path : TreePath K V P) (parent : OpaqueNodePtr K V P) (byte : ℕ) → IsAtPath tree pointer path x → last_step path ≡ Some (parent, byte) → (parents : HasParents tree pointer parent byte (step_before path)) × (parents.text ≡ x)
     leaf-under path parent byte (steps, leaf, has, is) last =
-        (hangs-under tree steps pointer parent byte (step_before path) leaf (path-under leaf.context path parent byte (ap path_of leaf.same ∙ sym is) last), has)
+        (has-parents tree steps pointer parent byte (step_before path) leaf (path-under leaf.context path parent byte (ap path_of leaf.same ∙ sym is) last), has)
 
-    pub leaf-child : (parent : OpaqueNodePtr K V P) (byte : ℕ) → IsAtPath tree pointer (ChildOfRoot parent byte) x → (hangs : HangsUnder tree pointer parent byte None) × (hangs.text ≡ x)
+    pub leaf-child : (parent : OpaqueNodePtr K V P) (byte : ℕ) → IsAtPath tree pointer (ChildOfRoot parent byte) x → (parents : HasParents tree pointer parent byte None) × (parents.text ≡ x)
     leaf-child parent byte path = leaf-under (ChildOfRoot parent byte) parent byte path refl
 
-    pub leaf-normal : (grandparent : OpaqueNodePtr K V P) (parent_byte : ℕ) (parent : OpaqueNodePtr K V P) (byte : ℕ) → IsAtPath tree pointer (Normal grandparent parent_byte parent byte) x → (hangs : HangsUnder tree pointer parent byte (Some (grandparent, parent_byte))) × (hangs.text ≡ x)
+    pub leaf-normal : (grandparent : OpaqueNodePtr K V P) (parent_byte : ℕ) (parent : OpaqueNodePtr K V P) (byte : ℕ) → IsAtPath tree pointer (Normal grandparent parent_byte parent byte) x → (parents : HasParents tree pointer parent byte (Some (grandparent, parent_byte))) × (parents.text ≡ x)
     leaf-normal grandparent parent_byte parent byte path = leaf-under (Normal grandparent parent_byte parent byte) parent byte path refl

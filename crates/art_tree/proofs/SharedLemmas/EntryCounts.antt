@@ -1,5 +1,5 @@
 -- The entries of an arena are as many as its leaves.
-use Rattle.art_tree.proofs.Names.{◌≡◌, ◌≢◌, ◌∙◌, ℕ, zero, suc, ◌+◌, ◌≤◌, List, [], ◌∷◌, length, All, Contains, Option, Some, None, cond, slice_index_or, refl, sym, ap, subst, arith, count_by, is_some, length-map, sum_by-cons, All-nil, All-cons, All-head, All-tail, All-weaker, All-contains, leaf_key, leaf_value, opaque_key, opaque_pointer, OpaqueNodePtr, LeafNode, NodeArena, HeldLeaf, Nothing, held, held_leaf, leaf_count, AreDistinct, Spells, SpellsAfter, Tree, leaves, texts, IsAlone, IsArt, entry_among, entries_among, entries_of, texts_of, inside_image, same_texts, texts-apart, texts-ascend, LeafKind}
+use Rattle.art_tree.proofs.Names.{◌≡◌, ◌≢◌, ◌∙◌, ℕ, zero, suc, ◌+◌, ◌≤◌, List, [], ◌∷◌, length, All, Contains, Option, Some, None, cond, slice_index_or, refl, sym, ap, subst, arith, count_by, is_some, length-map, sum_by-cons, All-nil, All-cons, All-head, All-tail, All-weaker, All-contains, leaf_key, leaf_value, opaque_key, opaque_pointer, OpaqueNodePtr, LeafNode, NodeArena, HeldLeaf, Nothing, held, held_leaf, leaf_count, AreDistinct, IsLinkedList, IsLinkedAfter, Tree, leaves, texts, IsAlone, IsArt, entry_among, entries_among, entries_of, texts_of, inside_image, same_texts, texts-apart, texts-ascend, LeafKind}
 use Rattle.art_steps.proofs.InsertLemmas.NodeLemmas.{some-leaf}
 use Rattle.art_steps.proofs.SharedLemmas.DictionaryLemmas.{entry-from, entry-of-text, leaf-in, one-member, text-of-entry}
 use Rattle.art_tree.proofs.SharedLemmas.EntryLists.{among-each, are-entries, has-entry, put-long}
@@ -57,14 +57,14 @@ module _ {X : Type 0} where
       omega (arith, low.long, rest, more)
 
 module _ {K V : Type 0} {P : ℕ} (arena : NodeArena K V P) where
-  spelled-held : (before : Option ℕ) (keys : List ℕ) → SpellsAfter arena before keys → HasEach arena.leaf.slots keys
-  spelled-held before [] spelled = All-nil (λ k. slice_index_or arena.leaf.slots k None ≢ None)
-  spelled-held before (k ∷ keys) ((leaf, at, previous, next), rest) =
-      All-cons (λ k. slice_index_or arena.leaf.slots k None ≢ None) k keys (λ none. let wrong : Some leaf ≡ None = sym at ∙ none in absurd (cc)) (spelled-held (Some k) keys rest)
+  list-held : (before : Option ℕ) (keys : List ℕ) → IsLinkedAfter arena before keys → HasEach arena.leaf.slots keys
+  list-held before [] is_linked = All-nil (λ k. slice_index_or arena.leaf.slots k None ≢ None)
+  list-held before (k ∷ keys) ((leaf, at, previous, next), rest) =
+      All-cons (λ k. slice_index_or arena.leaf.slots k None ≢ None) k keys (λ none. let wrong : Some leaf ≡ None = sym at ∙ none in absurd (cc)) (list-held (Some k) keys rest)
 
-  -- a list that links spell is no longer than there are leaves
-  pub spelled-fit : (keys : List ℕ) → Spells arena keys → length keys ≤ leaf_count arena
-  spelled-fit keys spells = distinct-fit arena.leaf.slots keys spells.distinct (spelled-held None keys spells.spelled)
+  -- a linked list is no longer than there are leaves
+  pub list-fit : (keys : List ℕ) → IsLinkedList arena keys → length keys ≤ leaf_count arena
+  list-fit keys is_list = distinct-fit arena.leaf.slots keys is_list.distinct (list-held None keys is_list.is_linked)
 
 module _ {K V : Type 0} {P : ℕ} (text : K → List ℕ) where
   -- leaves of one text are in one slot

@@ -1,8 +1,8 @@
 use Rattle.std.proofs.Common.{◌≡◌, ◌≤◌, ◌<◌, ◌+◌, ◌-◌, ◌∙◌, ℕ, List, [], ◌∷◌, ◌++◌, length, min, take, drop, set, refl, sym, ap, arith}
 use Rattle.std.proofs.lemmas.List.{drop-map, length-append}
-use Rattle.art_c_maps.specs.Batch.{ends_after, ends_of, fit_count, joined, toward}
+use Rattle.art_c_maps.specs.Batch.{ends_after, ends_of, fit_count, joined_keys, toward}
 use Rattle.art_c_maps.specs.Entries.{entries_in_bytes, keys_of, values_of}
-use Rattle.art_c_maps.proofs.BatchLemmas.{big-ends, big-unfit, count-done, ends-done, ends-left, joined-one, key-written, keys-done, most-ends, none-ends, none-unfit, one-fits, some-unfit, values-done}
+use Rattle.art_c_maps.proofs.BatchLemmas.{big-ends, big-unfit, count-done, ends-done, ends-left, joined_keys-one, key-written, keys-done, most-ends, none-ends, none-unfit, one-fits, some-unfit, values-done}
 use Rattle.art_c_maps.proofs.WriteLemmas.{left-behind, one-written}
 use Rattle.art_c_maps.proofs.batch.write_batch.Goals as goal
 
@@ -79,11 +79,11 @@ loop-index-preserved c =
     record {
       left = behind.0;
       enough = behind.1;
-      at = ap (λ m. m + length x.0) so_far.at ∙ sym (length-append (joined (take k (keys_of all))) x.0) ∙ ap length (sym (joined-one all k x rest here));
+      at = ap (λ m. m + length x.0) so_far.at ∙ sym (length-append (joined_keys (take k (keys_of all))) x.0) ∙ ap length (sym (joined_keys-one all k x rest here));
       within = omega (arith, fits, so_far.within);
       fits = one-fits all most size k at x rest here behind.0 more fits so_far.fits;
-      keys = wrote ∙ key-written (joined (take k (keys_of all))) x.0 c.args.keys.now c.loop-index.keys at so_far.keys so_far.at
-          ∙ ap (λ keys. keys ++ drop (at + length x.0) c.args.keys.now) (sym (joined-one all k x rest here));
+      keys = wrote ∙ key-written (joined_keys (take k (keys_of all))) x.0 c.args.keys.now c.loop-index.keys at so_far.keys so_far.at
+          ∙ ap (λ keys. keys ++ drop (at + length x.0) c.args.keys.now) (sym (joined_keys-one all k x rest here));
       ends = ap (λ xs. set xs k (at + length x.0)) so_far.ends
           ∙ one-written (ends_of all) c.args.ends.now k (at + length x.0) (ends_after (at + length x.0) rest) (ends-left all k at x rest here so_far.at) (omega (arith, more));
       values = ap (λ xs. set xs k x.1) so_far.values ∙ one-written (values_of all) c.args.values.now k x.1 (values_of rest) (drop-map (λ e. e.1) k all ∙ ap values_of here) (omega (arith, more));

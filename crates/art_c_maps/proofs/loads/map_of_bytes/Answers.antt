@@ -1,6 +1,6 @@
 use Rattle.std.proofs.Common.{◌≡◌, ◌<◌, ◌∙◌, [], length, get_or, ap, arith}
 use Rattle.std.specs.List.{zip}
-use Rattle.art_c_maps.specs.ByteStrings.{key_bytes}
+use Rattle.art_c_maps.specs.ByteStrings.{bytes_of_string}
 use Rattle.std.proofs.lemmas.Cmp.{nat_list_cmp_total}
 use Rattle.std.proofs.lemmas.List.{take_all}
 use Rattle.std.proofs.lemmas.Slice.Zip.{length-zip}
@@ -17,10 +17,10 @@ loop-index-preserved c =
     let keys = cut c.args.keys.now c.args.ends.now in let values = c.args.values.now in let i = c.loop-index.index in
     let in_ends : i < length c.args.ends.now = omega (arith, c.loop-index-test.true, c.min-count.ensures) in
     let step = cut-left c.args.keys.now c.args.ends.now c.loop-index.start i in_ends c.loop-index.invariant.left in
-    let key : key_bytes c.in_ok-key.key ≡ get_or keys i [] = c.in_ok-key.ensures.bytes ∙ c.bytes_between.ensures ∙ step.0 in
+    let key : bytes_of_string c.in_ok-key.key ≡ get_or keys i [] = c.in_ok-key.ensures.bytes ∙ c.bytes_between.ensures ∙ step.0 in
     record {
       left = step.1;
-      entries = ap entries_in_bytes c.in-Ok.ensures.entries ∙ put-read key_bytes text_order c.loop-index.loaded c.in_ok-key.key (get_or values i 0)
+      entries = ap entries_in_bytes c.in-Ok.ensures.entries ∙ put-read bytes_of_string text_order c.loop-index.loaded c.in_ok-key.key (get_or values i 0)
           ∙ ap (λ bytes. put text_order (entries_in_bytes c.loop-index.loaded) bytes (get_or values i 0)) key
           ∙ ap (λ entries. put text_order entries (get_or keys i []) (get_or values i 0)) c.loop-index.invariant.entries
           ∙ pair-put text_order nat_list_cmp_total keys values i [] 0 c.requires (omega (arith, in_ends, length-cut 0 c.args.keys.now c.args.ends.now)) (omega (arith, c.loop-index-test.true, c.min-count.ensures));

@@ -5,7 +5,7 @@ use Rattle.art_bytes.specs.Text.{text_order}
 use Rattle.art_arena.specs.Standing.{TreeAt}
 use Rattle.art_steps.specs.Art.{IsAlone, IsArt}
 use Rattle.art_search.specs.Search.{HasTree}
-use Rattle.art_index.specs.Places.{AllAbove, IsFloorFound}
+use Rattle.art_index.specs.Places.{AllTextsAbove, IsFloorFound}
 use Rattle.art_index.proofs.DescentLemmas.{part-at}
 use Rattle.art_index.proofs.FloorLemmas.{floor-up-to}
 use Rattle.art_index.proofs.PlaceLemmas.{no-entries}
@@ -18,7 +18,7 @@ returns-in_err-root g c =
     let x = g.Q.RadixQuery.encoded c.args.query in
     let art = subst (IsArt text arena) (sym c.root.ensures.root ∙ c.in_err-root.was) c.root.ensures.one_tree in
     subst (IsFloorFound text arena x) (sym c.from_residual.ensures)
-    (subst (AllAbove text x) (sym (no-entries text arena art)) (All-nil (λ entry. text_order (text entry.0) x ≡ Greater)))
+    (subst (AllTextsAbove text x) (sym (no-entries text arena art)) (All-nil (λ entry. text_order (text entry.0) x ≡ Greater)))
 
 pub node_beside-end-requires : goal.node_beside-end-requires
 node_beside-end-requires g c =

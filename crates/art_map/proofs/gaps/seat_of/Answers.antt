@@ -3,7 +3,7 @@ use Rattle.std.proofs.lemmas.List.{map-append}
 use Rattle.std.proofs.lemmas.List.Elements.{All-map}
 use Rattle.std.specs.declared.cmp.Ordering.TheVariants.{Greater}
 use Rattle.art_bytes.specs.Text.{text_order}
-use Rattle.art_pages.specs.Contents.{Contents}
+use Rattle.art_pages.specs.Contents.{PageContents}
 use Rattle.art_tree.specs.Entries.{entries_of}
 use Rattle.art_map.specs.Gaps.{IsGapAt}
 use Rattle.art_map.specs.Pages.{entries_in}
@@ -16,7 +16,7 @@ returns-in-Some g c =
     let compare = g.Q.RadixQuery.compare c.args.query in let head = c.args.head.now.entries in
     let x = g.Q.RadixQuery.encoded c.args.query in
     let place = c.in-Some.ensures.place in
-    let at : List ℕ × Contents g.row.K.Denot g.row.V.Denot → List ℕ × List (g.row.K.Denot × g.row.V.Denot) = page_of in
+    let at : List ℕ × PageContents g.row.K.Denot g.row.V.Denot → List ℕ × List (g.row.K.Denot × g.row.V.Denot) = page_of in
     let same : c.page.result.1.now.entries ≡ place.entry.1.entries = ap (λ e. e.1.entries) (c.page.ensures place) in
     let sides = beside-page g.K.KeyBytes.is_key g.K.KeyBytes.encoded compare x
     (λ key is. g.met.Q.RadixQuery.agrees c.args.query key c.encoded_len-len.ensures.query is.0 is.1)
@@ -34,7 +34,7 @@ pub returns-in-None : goal.returns-in-None
 returns-in-None g c =
     let compare = g.Q.RadixQuery.compare c.args.query in let head = c.args.head.now.entries in
     let x = g.Q.RadixQuery.encoded c.args.query in
-    let at : List ℕ × Contents g.row.K.Denot g.row.V.Denot → List ℕ × List (g.row.K.Denot × g.row.V.Denot) = page_of in
+    let at : List ℕ × PageContents g.row.K.Denot g.row.V.Denot → List ℕ × List (g.row.K.Denot × g.row.V.Denot) = page_of in
     let pages = pages_of c.args.tree.now.arena in (
       c.gap_in-in-None.ensures,
       above-behind compare c.args.after (entries_in pages) (above-first g.K.KeyBytes.is_key g.K.KeyBytes.encoded compare x

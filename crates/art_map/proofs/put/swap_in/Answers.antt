@@ -1,7 +1,7 @@
 use Rattle.std.proofs.Common.{◌≡◌, ◌∙◌, ◌<◌, ◌+◌, ◌∷◌, ◌++◌, Some, length, take, drop, ap, subst, sym}
 use Rattle.std.proofs.lemmas.Option.{slice_get-get_or}
 use Rattle.std.specs.Prelude.{set, slice_get}
-use Rattle.art_pages.specs.Contents.{Contents}
+use Rattle.art_pages.specs.Contents.{PageContents}
 use Rattle.art_pages.specs.Entries.{AreKeys, IsIndexable, IsOrdered}
 use Rattle.art_pages.proofs.FoundLemmas.{get_by-found, get_key_by-found, get_key_by-gap}
 use Rattle.art_map.proofs.SwapLemmas.{keys-at, ordered-at, set-cut, swapped-at}
@@ -15,7 +15,7 @@ pub from_entries-requires-clause-ordered : goal.from_entries-requires-clause-ord
 from_entries-requires-clause-ordered g c =
     let cmp = g.K.Ord.cmp in let key = c.args.key in let place = c.in-Ok.place in let entries = c.args.page.now.entries in
     let items = c.into_entries-entries.result.items in let pair = c.index_mut.result.now in
-    let same : items ≡ entries = c.into_entries-entries.ensures ∙ ap (λ (page : Contents _ _). page.entries) c.replace-held.ensures.value in
+    let same : items ≡ entries = c.into_entries-entries.ensures ∙ ap (λ (page : PageContents _ _). page.entries) c.replace-held.ensures.value in
     let is : slice_get entries place ≡ Some pair =
     ap (λ l. slice_get l place) (sym same) ∙ slice_get-get_or items place pair (subst (λ l. place < length l) (sym same) c.in-Ok.ensures.0) ∙ ap Some (sym c.index_mut.ensures.value) in
     let now : set items place (c.replace-old.new.dest, pair.1) ≡ take place entries ++ (key, pair.1) ∷ drop (place + 1) entries =
@@ -26,7 +26,7 @@ pub from_entries-requires-clause-keys : goal.from_entries-requires-clause-keys
 from_entries-requires-clause-keys g c =
     let cmp = g.K.Ord.cmp in let key = c.args.key in let place = c.in-Ok.place in let entries = c.args.page.now.entries in
     let items = c.into_entries-entries.result.items in let pair = c.index_mut.result.now in
-    let same : items ≡ entries = c.into_entries-entries.ensures ∙ ap (λ (page : Contents _ _). page.entries) c.replace-held.ensures.value in
+    let same : items ≡ entries = c.into_entries-entries.ensures ∙ ap (λ (page : PageContents _ _). page.entries) c.replace-held.ensures.value in
     let is : slice_get entries place ≡ Some pair =
     ap (λ l. slice_get l place) (sym same) ∙ slice_get-get_or items place pair (subst (λ l. place < length l) (sym same) c.in-Ok.ensures.0) ∙ ap Some (sym c.index_mut.ensures.value) in
     let now : set items place (c.replace-old.new.dest, pair.1) ≡ take place entries ++ (key, pair.1) ∷ drop (place + 1) entries =
@@ -37,7 +37,7 @@ pub returns-clause-old : goal.returns-clause-old
 returns-clause-old g c =
     let cmp = g.K.Ord.cmp in let key = c.args.key in let place = c.in-Ok.place in let entries = c.args.page.now.entries in
     let items = c.into_entries-entries.result.items in let pair = c.index_mut.result.now in
-    let same : items ≡ entries = c.into_entries-entries.ensures ∙ ap (λ (page : Contents _ _). page.entries) c.replace-held.ensures.value in
+    let same : items ≡ entries = c.into_entries-entries.ensures ∙ ap (λ (page : PageContents _ _). page.entries) c.replace-held.ensures.value in
     let is : slice_get entries place ≡ Some pair =
     ap (λ l. slice_get l place) (sym same) ∙ slice_get-get_or items place pair (subst (λ l. place < length l) (sym same) c.in-Ok.ensures.0) ∙ ap Some (sym c.index_mut.ensures.value) in
     let now : set items place (c.replace-old.new.dest, pair.1) ≡ take place entries ++ (key, pair.1) ∷ drop (place + 1) entries =
@@ -48,7 +48,7 @@ pub returns-clause-entries : goal.returns-clause-entries
 returns-clause-entries g c =
     let cmp = g.K.Ord.cmp in let key = c.args.key in let place = c.in-Ok.place in let entries = c.args.page.now.entries in
     let items = c.into_entries-entries.result.items in let pair = c.index_mut.result.now in
-    let same : items ≡ entries = c.into_entries-entries.ensures ∙ ap (λ (page : Contents _ _). page.entries) c.replace-held.ensures.value in
+    let same : items ≡ entries = c.into_entries-entries.ensures ∙ ap (λ (page : PageContents _ _). page.entries) c.replace-held.ensures.value in
     let is : slice_get entries place ≡ Some pair =
     ap (λ l. slice_get l place) (sym same) ∙ slice_get-get_or items place pair (subst (λ l. place < length l) (sym same) c.in-Ok.ensures.0) ∙ ap Some (sym c.index_mut.ensures.value) in
     let now : set items place (c.replace-old.new.dest, pair.1) ≡ take place entries ++ (key, pair.1) ∷ drop (place + 1) entries =

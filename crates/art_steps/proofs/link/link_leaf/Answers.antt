@@ -1,5 +1,5 @@
-use Rattle.art_steps.proofs.Names.{◌∙◌, ◌++◌, subst, ◌≡◌, ◌≢◌, slab_key, text_at, HoldsLeaf, IsKnit, IsUnlinked, First, Last, IsBeside, LiesBeside, HasGap, Less, text_order, leaf-pointer-fits, slice-fits}
-use Rattle.art_steps.proofs.InsertLemmas.LinkLemmas.{ready, still-spelled, entry-held, others-stay, spelled-before, spelled-after}
+use Rattle.art_steps.proofs.Names.{◌∙◌, ◌++◌, subst, ◌≡◌, ◌≢◌, slab_key, text_at, HoldsLeaf, IsKnit, IsUnlinked, First, Last, IsBeside, IsOnSide, HasGap, Less, text_order, leaf-pointer-fits, slice-fits}
+use Rattle.art_steps.proofs.InsertLemmas.LinkLemmas.{ready, still-list, entry-held, others-stay, list-with_before, list-with_after}
 use Rattle.art_steps.proofs.SharedLemmas.RoomLemmas.{same-capacity, same-room}
 use Rattle.art_steps.proofs.link.link_leaf.Goals as goal
 
@@ -12,7 +12,7 @@ insert_before-requires g c =
     let sibling = slab_key c.args.sibling in
     let leaf = c.with_no_siblings in
     let gap = subst (λ end. HasGap old end sibling) c.in-First.is c.requires.gap in
-    let order = subst (λ end. LiesBeside end (text c.args.key) (text_at text old sibling)) c.in-First.is c.requires.order in
+    let order = subst (λ end. IsOnSide end (text c.args.key) (text_at text old sibling)) c.in-First.is c.requires.order in
     let is_ready = ready old now this leaf.result c.allocate_reserved-leaf.ensures.was_free c.allocate_reserved-leaf.ensures.added text c.args.key leaf.ensures.key leaf.ensures.previous leaf.ensures.next First sibling gap order in
     let is_held : HoldsLeaf now this = is_ready.held in
     let unlinked : IsUnlinked now this = is_ready.unlinked in
@@ -34,7 +34,7 @@ returns-in-First g c =
     record {
       was_free = free;
       entry = entry-held old now this leaf free changes new linked.contents c.args.key c.args.value c.with_no_siblings.ensures.key c.with_no_siblings.ensures.value;
-      spelled = λ left right spelled beside. spelled-before now new this (slab_key c.args.sibling) left right linked.spelled (still-spelled old now this leaf free changes (left ++ right) spelled) (subst (λ end. IsBeside end left right (slab_key c.args.sibling)) c.in-First.is beside);
+      is_linked = λ left right is_linked beside. list-with_before now new this (slab_key c.args.sibling) left right linked.is_linked (still-list old now this leaf free changes (left ++ right) is_linked) (subst (λ end. IsBeside end left right (slab_key c.args.sibling)) c.in-First.is beside);
       others = others-stay old now this leaf free changes new linked.contents;
       other_room = λ other differ. same-room now new linked.room other ∙ c.allocate_reserved-leaf.ensures.other_room other differ;
       capacity = λ kind. same-capacity now new linked.room kind ∙ c.allocate_reserved-leaf.ensures.capacity kind;
@@ -49,7 +49,7 @@ insert_after-requires g c =
     let sibling = slab_key c.args.sibling in
     let leaf = c.with_no_siblings in
     let gap = subst (λ end. HasGap old end sibling) c.in-Last.is c.requires.gap in
-    let order = subst (λ end. LiesBeside end (text c.args.key) (text_at text old sibling)) c.in-Last.is c.requires.order in
+    let order = subst (λ end. IsOnSide end (text c.args.key) (text_at text old sibling)) c.in-Last.is c.requires.order in
     let is_ready = ready old now this leaf.result c.allocate_reserved-leaf.ensures.was_free c.allocate_reserved-leaf.ensures.added text c.args.key leaf.ensures.key leaf.ensures.previous leaf.ensures.next Last sibling gap order in
     let is_held : HoldsLeaf now this = is_ready.held in
     let unlinked : IsUnlinked now this = is_ready.unlinked in
@@ -71,7 +71,7 @@ returns-in-Last g c =
     record {
       was_free = free;
       entry = entry-held old now this leaf free changes new linked.contents c.args.key c.args.value c.with_no_siblings.ensures.key c.with_no_siblings.ensures.value;
-      spelled = λ left right spelled beside. spelled-after now new this (slab_key c.args.sibling) left right linked.spelled (still-spelled old now this leaf free changes (left ++ right) spelled) (subst (λ end. IsBeside end left right (slab_key c.args.sibling)) c.in-Last.is beside);
+      is_linked = λ left right is_linked beside. list-with_after now new this (slab_key c.args.sibling) left right linked.is_linked (still-list old now this leaf free changes (left ++ right) is_linked) (subst (λ end. IsBeside end left right (slab_key c.args.sibling)) c.in-Last.is beside);
       others = others-stay old now this leaf free changes new linked.contents;
       other_room = λ other differ. same-room now new linked.room other ∙ c.allocate_reserved-leaf.ensures.other_room other differ;
       capacity = λ kind. same-capacity now new linked.room kind ∙ c.allocate_reserved-leaf.ensures.capacity kind;

@@ -1,11 +1,11 @@
-use Rattle.art_steps.proofs.Names.{HasPlaceAt, leaf_pointer, leaf-pointer-fits, slice-fits, spot-fits}
+use Rattle.art_steps.proofs.Names.{HasGapUnder, leaf_pointer, leaf-pointer-fits, slice-fits, spot-fits}
 use Rattle.art_steps.proofs.PlaceLemmas.SidesAround.{absent-next, absent-place}
 use Rattle.art_steps.proofs.place.leaf_beside_absent.Goals as goal
 
 pub leaf_beside_child-requires : goal.leaf_beside_child-requires
 leaf_beside_child-requires g c =
     let (tree, key, is) = c.requires in
-    let has_place : HasPlaceAt g.K.AsBytes.text c.args.arena.now c.args.spot.node c.args.byte = absent-place g.K.AsBytes.text c.args.arena.now tree key c.args.spot c.args.byte c.ranges.byte.fits is.stands is.sound is.belongs in
+    let has_place : HasGapUnder g.K.AsBytes.text c.args.arena.now c.args.spot.node c.args.byte = absent-place g.K.AsBytes.text c.args.arena.now tree key c.args.spot c.args.byte c.ranges.byte.fits is.stands is.sound is.belongs in
     assumption (leaf-pointer-fits, slice-fits, spot-fits)
 
 pub returns-clause-beside : goal.returns-clause-beside

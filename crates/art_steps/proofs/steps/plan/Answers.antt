@@ -1,6 +1,6 @@
 use Rattle.art_steps.proofs.Names.{◌≡◌, ◌∙◌, ◌<◌, ℕ, ◌+◌, ◌^◌, length, map, List, [], ◌∷◌, ◌++◌, get_or, sym, ap, subst, arith, refl, option_to_list, length-map, Forks, byte_before, text_of_entry, Open}
 use Rattle.art_steps.specs.declared.steps.Step.TheVariants as step
-use Rattle.art_steps.proofs.LoadLemmas.OpenNodes.{IsPlanned, IsClosing, Parts, entry-text, bytes-at, planned-path, parts-between, parts-last, closing-leaf, closing-some, closing-below, closing-node-called, closing-count, hang-new, hang-last, closed}
+use Rattle.art_steps.proofs.LoadLemmas.OpenNodes.{IsPlanned, IsClosing, Parts, entry-text, bytes-at, planned-path, parts-between, parts-last, closing-leaf, closing-some, closing-below, closing-node-called, closing-count, branch-new, branch-last, closed}
 use Rattle.art_steps.proofs.steps.plan.Goals as goal
 use Rattle.art_steps.proofs.steps.plan.Goals.{then-i-entries, else-i-entries, then-top-shared+in_ok-push-3, else-top-shared}
 
@@ -106,10 +106,10 @@ loop-i-preserved g c =
           elim c.if-top-shared.branch [
             | then-top-shared+in_ok-push-3 w ↦
                 subst (λ top. Then top c.if-top-shared.open.items) (sym w.top-is) (subst (λ items. IsPlanned texts (c.loop-i.i + 1) (record { path = c.if-i-entries.shared; children = 1 }) items c.closing.steps.items) (sym (ap (λ v. v.items) w.open-is ∙ w.in_ok-push-3.ensures.items))
-                (hang-new texts c.loop-i.i text is_text bytes (text_of_entry texts (c.loop-i.i + 1)) refl between.0 between.2 c.if-i-entries.shared c.closing.top c.closing.open.items c.closing.steps.items between.1 w.if-top-shared.true c.closing.invariant.finished))
+                (branch-new texts c.loop-i.i text is_text bytes (text_of_entry texts (c.loop-i.i + 1)) refl between.0 between.2 c.if-i-entries.shared c.closing.top c.closing.open.items c.closing.steps.items between.1 w.if-top-shared.true c.closing.invariant.finished))
             | else-top-shared w ↦
                 subst (λ top. Then top c.if-top-shared.open.items) (sym w.top-is) (subst (λ items. Then c.closing.top items) (sym (ap (λ v. v.items) w.open-is))
-                (hang-last texts c.loop-i.i text is_text bytes (text_of_entry texts (c.loop-i.i + 1)) refl between.0 between.2 c.if-i-entries.shared c.closing.top c.closing.open.items c.closing.steps.items between.1 (omega (arith, w.if-top-shared.false, c.closing-test.false)) c.closing.invariant.finished))
+                (branch-last texts c.loop-i.i text is_text bytes (text_of_entry texts (c.loop-i.i + 1)) refl between.0 between.2 c.if-i-entries.shared c.closing.top c.closing.open.items c.closing.steps.items between.1 (omega (arith, w.if-top-shared.false, c.closing-test.false)) c.closing.invariant.finished))
           ];
       after_last = λ all. closed texts c.loop-i.i text is_text c.if-i-entries.shared c.closing.top c.closing.open.items c.closing.steps.items (parts.last (omega (arith, count, all))) (omega (arith, c.closing-test.false)) (omega (arith, count, all)) c.closing.invariant.finished;
     }

@@ -1,6 +1,6 @@
-use Rattle.art_tree.proofs.Names.{◌≡◌, ◌≢◌, ◌∙◌, ◌<◌, None, refl, sym, subst, child_at, node_kind, slab_key, held, HeldInner, Nothing, room, text_at, HasGap, HasRoomToGrow, LiesBeside, TellsFull, CanHang, HasPlaceAt, leaf_pointer, LeafKind, leaf-pointer-fits, places-apart, texts-apart, texts-ascend}
+use Rattle.art_tree.proofs.Names.{◌≡◌, ◌≢◌, ◌∙◌, ◌<◌, None, refl, sym, subst, child_at, node_kind, slab_key, held, HeldInner, Nothing, room, text_at, HasGap, HasRoomToGrow, IsOnSide, WhetherFull, HasChildUnder, HasGapUnder, leaf_pointer, LeafKind, leaf-pointer-fits, places-apart, texts-apart, texts-ascend}
 use Rattle.art_nodes.specs.Inner.{Inner}
-use Rattle.art_steps.proofs.InsertLemmas.AddedChild.{ChildAdded, alone-there, child-added, child-gap, child-hangs, child-lies, child-reserved, linked-absent, linked-full, linked-held, linked-room, place-there, there-held, there-inner}
+use Rattle.art_steps.proofs.InsertLemmas.AddedChild.{ChildAdded, alone-there, child-added, child-gap, child-has_child, child-lies, child-reserved, linked-absent, linked-full, linked-held, linked-room, place-there, there-held, there-inner}
 use Rattle.art_steps.proofs.InsertLemmas.AddedLeaf.{entered-from}
 use Rattle.art_tree.proofs.InsertLemmas.NeededChild.{child-lacks}
 use Rattle.art_steps.proofs.SharedLemmas.RoomLemmas.{grows-on, grows-then, same-capacity}
@@ -27,7 +27,7 @@ pub leaf_beside_child-end-requires : goal.leaf_beside_child-end-requires
 leaf_beside_child-end-requires g c =
     let reserved = c.reserve_for_child.new.arena in
     let place = child-reserved c.args.arena.now reserved c.requires.place c.reserve_for_child.ensures.nodes_kept c.ranges.byte.fits in
-    let has_place : HasPlaceAt g.K.AsBytes.text reserved c.args.spot.node c.args.byte = place-there place in
+    let has_place : HasGapUnder g.K.AsBytes.text reserved c.args.spot.node c.args.byte = place-there place in
     assumption leaf-pointer-fits
 
 pub link_leaf-leaf-requires : goal.link_leaf-leaf-requires
@@ -40,7 +40,7 @@ link_leaf-leaf-requires g c =
     let end = c.leaf_beside_child-end.result.1 in
     let has_room : 0 < room reserved LeafKind = ok-then c.reserve_for_child.result (0 < room reserved LeafKind) c.is_err.ensures.value c.if-is_err.false c.reserve_for_child.ensures.leaf_room in
     let has_gap : HasGap reserved end sibling = child-gap place end sibling beside in
-    let order : LiesBeside end (text c.args.key) (text_at text reserved sibling) = child-lies place end sibling beside c.requires.short texts-ascend in
+    let order : IsOnSide end (text c.args.key) (text_at text reserved sibling) = child-lies place end sibling beside c.requires.short texts-ascend in
     assumption leaf-pointer-fits
 
 pub add_child-node-requires : goal.add_child-node-requires
@@ -55,19 +55,19 @@ add_child-node-requires g c =
     let is_held : held linked node ≢ Nothing = linked-held place linked leaf link.was_free link.others in
     let is_inner : node_kind node ≢ LeafKind = there-inner place in
     let absent : (own : Inner _) → held linked node ≡ HeldInner own → child_at own.children c.args.byte ≡ None = linked-absent place linked leaf link.was_free link.others in
-    let full : TellsFull linked node c.is_full-full.result = linked-full place linked leaf link.was_free link.others (λ own is. c.is_full-full.ensures own (sym (c.reserve_for_child.ensures.nodes_kept node) ∙ is)) in
+    let full : WhetherFull linked node c.is_full-full.result = linked-full place linked leaf link.was_free link.others (λ own is. c.is_full-full.ensures own (sym (c.reserve_for_child.ensures.nodes_kept node) ∙ is)) in
     let has_room : HasRoomToGrow linked node = linked-room place linked leaf link.was_free link.others rooms link.other_room in
     assumption leaf-pointer-fits
 
-pub hang-requires : goal.hang-requires
-hang-requires g c =
+pub put_child_or_root-requires : goal.put_child_or_root-requires
+put_child_or_root-requires g c =
     let place = child-reserved c.args.arena.now c.reserve_for_child.new.arena c.requires.place c.reserve_for_child.ensures.nodes_kept c.ranges.byte.fits in
     let linked = c.link_leaf-leaf.new.arena in
     let link = c.link_leaf-leaf.ensures in
     let new = c.add_child-node.new.arena in
     let top = c.add_child-node.result in
     let added = subst (λ child. ChildAdded linked new c.args.spot.node c.args.byte child top) c.to_opaque.ensures c.add_child-node.ensures.added in
-    let can : CanHang new c.args.spot.parent c.args.spot.node = child-hangs place linked (leaf_pointer c.link_leaf-leaf.result) link.was_free link.others new top c.args.value link.entry (places-apart g.K.AsBytes.text) added in
+    let can : HasChildUnder new c.args.spot.parent c.args.spot.node = child-has_child place linked (leaf_pointer c.link_leaf-leaf.result) link.was_free link.others new top c.args.value link.entry (places-apart g.K.AsBytes.text) added in
     assumption leaf-pointer-fits
 
 pub returns : goal.returns
@@ -84,17 +84,17 @@ returns g c =
     let top = c.add_child-node.result in
     let more = subst (λ child. ChildAdded linked new c.args.spot.node c.args.byte child top) c.to_opaque.ensures c.add_child-node.ensures.added in
     let added = child-added place linked (leaf_pointer c.link_leaf-leaf.result) link.was_free link.others new top c.args.value link.entry (places-apart g.K.AsBytes.text) more
-    c.hang.new.arena c.hang.result c.hang.ensures.hung c.requires.short c.leaf_beside_child-end.result.1 (slab_key c.leaf_beside_child-end.result.0) (c.leaf_beside_child-end.ensures.beside (place-there place)) link.spelled texts-apart in
+    c.put_child_or_root.new.arena c.put_child_or_root.result c.put_child_or_root.ensures.placed c.requires.short c.leaf_beside_child-end.result.1 (slab_key c.leaf_beside_child-end.result.0) (c.leaf_beside_child-end.ensures.beside (place-there place)) link.is_linked texts-apart in
     record {
       art = added.0;
       leaf = added.2;
-      entered = entered-from text old reserved c.hang.new.arena c.args.key c.args.value c.args.root tree alone (apart-there alone) kept added.1;
+      entered = entered-from text old reserved c.put_child_or_root.new.arena c.args.key c.args.value c.args.root tree alone (apart-there alone) kept added.1;
       entry_back = tt;
       nodes_kept = tt;
       no_room = tt;
-      memory = grows-on old reserved c.hang.new.arena _
+      memory = grows-on old reserved c.put_child_or_root.new.arena _
           (grows-then old reserved _ _ (child-lacks (child-reserved old old c.requires.place (λ pointer. refl) c.ranges.byte.fits) c.requires.short (apart-there (alone-there (child-reserved old old c.requires.place (λ pointer. refl) c.ranges.byte.fits)))) c.reserve_for_child.ensures.memory)
-          (λ kind. same-capacity new c.hang.new.arena c.hang.ensures.room kind ∙ c.add_child-node.ensures.capacity kind ∙ link.capacity kind);
+          (λ kind. same-capacity new c.put_child_or_root.new.arena c.put_child_or_root.ensures.room kind ∙ c.add_child-node.ensures.capacity kind ∙ link.capacity kind);
     }
 
 pub returns-then-is_err : goal.returns-then-is_err

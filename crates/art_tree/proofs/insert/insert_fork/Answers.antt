@@ -1,8 +1,8 @@
-use Rattle.art_tree.proofs.Names.{◌≡◌, ◌≢◌, ◌<◌, ◌≤◌, ◌∙◌, ◌+◌, ◌-◌, ◌^◌, length, sym, subst, arith, refl, slice_get_within, Node4, LeafKind, slab_key, held, HeldInner, Nothing, room, HoldsLeaf, text_at, TreeAt, HasGap, LiesBeside, CanHang, leaf_pointer, leaf-pointer-fits, places-apart, texts-apart, texts-ascend}
+use Rattle.art_tree.proofs.Names.{◌≡◌, ◌≢◌, ◌<◌, ◌≤◌, ◌∙◌, ◌+◌, ◌-◌, ◌^◌, length, sym, subst, arith, refl, slice_get_within, Node4, LeafKind, slab_key, held, HeldInner, Nothing, room, HoldsLeaf, text_at, TreeAt, HasGap, IsOnSide, HasChildUnder, leaf_pointer, leaf-pointer-fits, places-apart, texts-apart, texts-ascend}
 use Rattle.art_nodes.specs.Inner.{Inner}
 use Rattle.art_steps.proofs.InsertLemmas.AddedLeaf.{entered-from}
 use Rattle.art_tree.proofs.InsertLemmas.NeededFork.{fork-lacks}
-use Rattle.art_tree.proofs.InsertLemmas.AddedFork.{alone-there, beside-there, fork-added, fork-hangs, fork-reserved, gap-there, index-within, lies-there, linked-held, new-leaf-held, sibling-held, text-there, tree-there, within-there}
+use Rattle.art_tree.proofs.InsertLemmas.AddedFork.{alone-there, beside-there, fork-added, fork-has_child, fork-reserved, gap-there, index-within, lies-there, linked-held, new-leaf-held, sibling-held, text-there, tree-there, within-there}
 use Rattle.art_steps.proofs.SharedLemmas.RoomLemmas.{grows-on, grows-then, same-capacity, same-room}
 use Rattle.art_steps.proofs.SharedLemmas.ParentLemmas.{err-then, ok-then}
 use Rattle.art_tree.proofs.SharedLemmas.TreeLaws.{apart-there}
@@ -25,7 +25,7 @@ link_leaf-leaf-requires g c =
     let beside = beside-there place end sibling (c.end_leaf-sibling.ensures.at_end (tree-there place)) c.near_end-end.ensures.end in
     let has_room : 0 < room reserved LeafKind = ok-then c.reserve_for_fork.result (0 < room reserved LeafKind) c.is_err.ensures.value c.if-is_err.false c.reserve_for_fork.ensures.leaf_room in
     let has_gap : HasGap reserved end sibling = gap-there place end sibling beside in
-    let order : LiesBeside end (text c.args.key) (text_at text reserved sibling) = lies-there place end sibling beside c.requires.short texts-ascend in
+    let order : IsOnSide end (text c.args.key) (text_at text reserved sibling) = lies-there place end sibling beside c.requires.short texts-ascend in
     assumption leaf-pointer-fits
 
 pub overflow_add-mismatch : goal.overflow_add-mismatch
@@ -74,13 +74,13 @@ fork_node-node-requires g c =
     let has_room : 0 < room trimmed Node4 = subst (λ n. 0 < n) (sym (same-room linked trimmed c.trim.ensures.room Node4 ∙ link.other_room Node4 (λ e. cc))) was_room in
     assumption leaf-pointer-fits
 
-pub hang-requires : goal.hang-requires
-hang-requires g c =
+pub put_child_or_root-requires : goal.put_child_or_root-requires
+put_child_or_root-requires g c =
     let place = fork-reserved c.args.arena.now c.reserve_for_fork.new.arena c.requires.place c.reserve_for_fork.ensures.nodes_kept c.near_end-end.ensures.bytes in
     let at_end = c.end_leaf-sibling.ensures.at_end (tree-there place) in
     let link = c.link_leaf-leaf.ensures in
     let new = c.fork_node-node.new.arena in
-    let can : CanHang new c.args.spot.parent c.args.spot.node = fork-hangs place c.link_leaf-leaf.new.arena (leaf_pointer c.link_leaf-leaf.result) link.was_free link.others c.near_end-end.result (slab_key c.end_leaf-sibling.result) at_end c.trim.new.arena c.trim.ensures.leaf c.trim.ensures.trimmed c.args.value link.entry (slab_key c.link_leaf-leaf.result) refl
+    let can : HasChildUnder new c.args.spot.parent c.args.spot.node = fork-has_child place c.link_leaf-leaf.new.arena (leaf_pointer c.link_leaf-leaf.result) link.was_free link.others c.near_end-end.result (slab_key c.end_leaf-sibling.result) at_end c.trim.new.arena c.trim.ensures.leaf c.trim.ensures.trimmed c.args.value link.entry (slab_key c.link_leaf-leaf.result) refl
     new c.fork_node-node.result (places-apart g.K.AsBytes.text) c.fork_node-node.ensures in
     assumption leaf-pointer-fits
 
@@ -95,17 +95,17 @@ returns g c =
     let at_end = c.end_leaf-sibling.ensures.at_end (tree-there place) in
     let link = c.link_leaf-leaf.ensures in
     let added = fork-added place c.link_leaf-leaf.new.arena (leaf_pointer c.link_leaf-leaf.result) link.was_free link.others c.near_end-end.result (slab_key c.end_leaf-sibling.result) at_end c.trim.new.arena c.trim.ensures.leaf c.trim.ensures.trimmed c.args.value link.entry (slab_key c.link_leaf-leaf.result) refl
-    c.fork_node-node.new.arena c.fork_node-node.result (places-apart g.K.AsBytes.text) c.fork_node-node.ensures c.hang.new.arena c.hang.result c.hang.ensures.hung c.requires.short c.near_end-end.ensures.end link.spelled texts-apart in
+    c.fork_node-node.new.arena c.fork_node-node.result (places-apart g.K.AsBytes.text) c.fork_node-node.ensures c.put_child_or_root.new.arena c.put_child_or_root.result c.put_child_or_root.ensures.placed c.requires.short c.near_end-end.ensures.end link.is_linked texts-apart in
     record {
       art = added.0;
       leaf = added.2;
-      entered = entered-from text old reserved c.hang.new.arena c.args.key c.args.value c.args.root tree alone (apart-there alone) kept added.1;
+      entered = entered-from text old reserved c.put_child_or_root.new.arena c.args.key c.args.value c.args.root tree alone (apart-there alone) kept added.1;
       entry_back = tt;
       nodes_kept = tt;
       no_room = tt;
-      memory = grows-on old reserved c.hang.new.arena _
+      memory = grows-on old reserved c.put_child_or_root.new.arena _
           (grows-then old reserved _ _ (fork-lacks (fork-reserved old old c.requires.place (λ pointer. refl) c.near_end-end.ensures.bytes) c.requires.short (apart-there (alone-there (fork-reserved old old c.requires.place (λ pointer. refl) c.near_end-end.ensures.bytes)))) c.reserve_for_fork.ensures.memory)
-          (λ kind. same-capacity c.fork_node-node.new.arena c.hang.new.arena c.hang.ensures.room kind ∙ c.fork_node-node.ensures.capacity kind ∙ same-capacity c.link_leaf-leaf.new.arena c.trim.new.arena c.trim.ensures.room kind ∙ link.capacity kind);
+          (λ kind. same-capacity c.fork_node-node.new.arena c.put_child_or_root.new.arena c.put_child_or_root.ensures.room kind ∙ c.fork_node-node.ensures.capacity kind ∙ same-capacity c.link_leaf-leaf.new.arena c.trim.new.arena c.trim.ensures.room kind ∙ link.capacity kind);
     }
 
 pub returns-then-is_err : goal.returns-then-is_err

@@ -1,4 +1,4 @@
-use Rattle.art_tree.proofs.SharedLemmas.EntryCounts.{art-counted, entry-texts, leaves-counted, spelled-fit}
+use Rattle.art_tree.proofs.SharedLemmas.EntryCounts.{art-counted, entry-texts, leaves-counted, list-fit}
 use Rattle.art_tree.proofs.laws.entries_are_as_many_as_leaves.Goals as goal
 
 pub returns-clause-texts : goal.returns-clause-texts
@@ -10,5 +10,5 @@ returns-clause-leaves g c = leaves-counted g.K.AsBytes.text
 pub returns-clause-entries : goal.returns-clause-entries
 returns-clause-entries g c = art-counted g.K.AsBytes.text
 
-pub returns-clause-spelled : goal.returns-clause-spelled
-returns-clause-spelled g c = spelled-fit
+pub returns-clause-linked : goal.returns-clause-linked
+returns-clause-linked g c = list-fit

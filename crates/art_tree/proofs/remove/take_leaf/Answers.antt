@@ -1,5 +1,5 @@
 use Rattle.art_tree.proofs.Names.{slab_key, HoldsLeaf, IsKnit, LeafKind, knit-member}
-use Rattle.art_tree.proofs.RemoveLemmas.RemovalLemmas.{frees-after, left-spelled, no-less-room, others-left, still-held, taken-entry}
+use Rattle.art_tree.proofs.RemoveLemmas.RemovalLemmas.{frees-after, left-list, no-less-room, others-left, still-held, taken-entry}
 use Rattle.art_tree.proofs.remove.take_leaf.Goals as goal
 
 pub remove_self-requires : goal.remove_self-requires
@@ -26,7 +26,7 @@ returns g c =
     record {
       entry = λ node is. taken-entry old linked this out.ensures.contents taken.result node taken.ensures.node is c.into_entry.result c.into_entry.ensures.key c.into_entry.ensures.value;
       gone = taken.ensures.removed.changed;
-      spelled = λ left right spelled. left-spelled old linked this out.ensures.contents new taken.ensures.removed left right spelled (out.ensures.spelled left right spelled);
+      is_linked = λ left right is_linked. left-list old linked this out.ensures.contents new taken.ensures.removed left right is_linked (out.ensures.linked left right is_linked);
       others = others-left old linked this out.ensures.contents new taken.ensures.removed;
       room = no-less-room old linked new out.ensures.room taken.ensures.room taken.ensures.other_room;
       frees = frees-after old linked new LeafKind out.ensures.room (record { one_more = taken.ensures.takes_no_memory; others = taken.ensures.other_room; capacity = taken.ensures.capacity });

@@ -4,7 +4,7 @@ ghost use Rattle.std.specs.declared.cmp.Ordering.TheVariants.{Less};
 ghost use Rattle.art_bytes.specs.Text.{text_order};
 ghost use Rattle.art_header.specs.declared.node_type.NodeType.TheVariants as NodeType;
 ghost use Rattle.art_nodes.specs.Pointers.{opaque_pointer, slab_key};
-ghost use Rattle.art_arena.specs.Links.{Spells, HoldsLeaf, IsUnlinked, IsKnit, text_at};
+ghost use Rattle.art_arena.specs.Links.{IsLinkedList, HoldsLeaf, IsUnlinked, IsKnit, text_at};
 ghost use Rattle.art_arena.specs.Standing.{IsTreeIn};
 ghost use Rattle.art_arena.specs.Trees.{places};
 
@@ -27,8 +27,8 @@ fn push_back<K: AsBytes, V, const PREFIX_LEN: usize>(
     requires last_knit { IsKnit arena.old (slab_key last) }
     requires above { text_order (text_at K.text arena.old (slab_key last))
         (text_at K.text arena.old (slab_key this)) ≡ Less }
-    ensures { (leaves : List _) → Spells arena.old (leaves ++ slab_key last ∷ []) →
-        Spells arena.new (leaves ++ slab_key last ∷ slab_key this ∷ []) }
+    ensures { (leaves : List _) → IsLinkedList arena.old (leaves ++ slab_key last ∷ []) →
+        IsLinkedList arena.new (leaves ++ slab_key last ∷ slab_key this ∷ []) }
 {
     LeafNode::insert_after(arena, this, last);
 }
@@ -40,7 +40,7 @@ fn allocate_leaf<K, V, const PREFIX_LEN: usize>(
     value: V,
 ) -> Result<LeafPtr<K, V, PREFIX_LEN>, (AllocError, LeafNode<K, V, PREFIX_LEN>)>
     ensures { IfOk result (λ _. (leaves : List _) →
-        Spells arena.old leaves → Spells arena.new leaves) }
+        IsLinkedList arena.old leaves → IsLinkedList arena.new leaves) }
 {
     allocating_keeps_lists_spelled::<K, V, PREFIX_LEN>();
     arena.allocate_node_ptr(LeafNode::with_no_siblings(key, value))
@@ -53,7 +53,7 @@ fn deallocate_leaf<K: AsBytes, V, const PREFIX_LEN: usize>(
 ) -> LeafNode<K, V, PREFIX_LEN>
     requires { HoldsLeaf arena.old (slab_key leaf) }
     ensures list { (leaves : List _) → All (λ key. key ≢ slab_key leaf) leaves →
-        Spells arena.old leaves → Spells arena.new leaves }
+        IsLinkedList arena.old leaves → IsLinkedList arena.new leaves }
     ensures tree { (root : _) (tree : _) →
         All (λ pointer. pointer ≢ opaque_pointer NodeType.Leaf (slab_key leaf)) (places tree) →
         IsTreeIn K.text arena.old root tree → IsTreeIn K.text arena.new root tree }

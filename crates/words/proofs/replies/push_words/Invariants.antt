@@ -1,10 +1,10 @@
 use Rattle.std.proofs.Common.{◌≡◌, ◌++◌}
 use Rattle.std.specs.List.{flat_map}
 use Rattle.program_lines.specs.Lines.{line}
-use Rattle.words.specs.Places.{words_of}
+use Rattle.words.specs.Places.{entry_words}
 use Rattle.words.proofs.replies.push_words.Given as goal
 
 -- the lines so far and those of the keys that are left are all lines
 abbrev pub invariant-loop-key : goal.invariant-loop-key
 invariant-loop-key l =
-    l.output.items ++ flat_map line (words_of l.key-iterator) ≡ l.initial.output.items ++ flat_map line (words_of l.initial.key-iterator)
+    l.output.items ++ flat_map line (entry_words l.key-iterator) ≡ l.initial.output.items ++ flat_map line (entry_words l.initial.key-iterator)

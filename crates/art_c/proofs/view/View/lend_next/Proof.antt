@@ -40,7 +40,7 @@ use Rattle.std.proofs.raw_atomic.Walks.{proved_at}
 use Rattle.art_c.proofs.held.Held.TheLaws as held
 use Rattle.art_c.proofs.Behind.{either_seen}
 use Rattle.art_c_maps.proofs.LoanSteps.{Good, otherwise}
-use Rattle.art_c.specs.Handles.{entries_of, held_row}
+use Rattle.art_c.specs.Handles.{held_entries, held_row}
 use Rattle.art_c.specs.Kinds.{bytes_of, found_in}
 use Rattle.art_c.specs.Views.{seen_behind}
 use Rattle.art_bytes.specs.Text.{text_order}
@@ -82,7 +82,7 @@ lend_next_spec {M} 𝓤 𝓛 𝓜 𝓡 wired =
     let v₁ : Val = slice_val prefix.ref_ptr (length prefix.now) in let v₂ : Val = slice_val from_key.ref_ptr (length from_key.now) in let v₃ : Val = slice_val out.ref_ptr (length out.now) in
     let T : Item 𝓤 = ‵ (flft κ₁ z.0.1.1.0) ⊛ ‵ (flft κ₂ z.0.1.1.1.0) ⊛ ‵ (flft κ₃ z.0.1.1.1.1.0) ⊛ ‵ ftrue in
     let Kept = (coded_holeys Entry.the_row).code (heres Entry.the_row out.now) in
-    let Next : Option held_row.Denot → List (List ℕ × ℕ) = λ seen. next_entries text_order (length out.now) inclusive from_key.now (entries_with_prefix prefix.now (entries_of (found_in bytes_of seen))) in
+    let Next : Option held_row.Denot → List (List ℕ × ℕ) = λ seen. next_entries text_order (length out.now) inclusive from_key.now (entries_with_prefix prefix.now (held_entries (found_in bytes_of seen))) in
     let Post = (walk_of 𝓛 f.ended hs c).post z in let Runs : List Val → SProp 𝓤 = λ vs. WpFn 𝓤 H 𝓣.C 𝓣.Λ fn vs Post in
     qed 𝓛 (((‵ (flft κ q) ⊛ T) ⊛ ‵ (owns (types_at f.ended.signature.params z.0.0) z.0.3 z.0.4)) ∷ ‵ ftrue ∷ []) ∵
     regoal ! (λ (us : List Val). prop (Runs (us ++ (vss.1.0 ++ (vss.1.1.0 ++ (vss.1.1.1.0 ++ (vss.1.1.1.1.0 ++ []))))))) are.0.0 refl $

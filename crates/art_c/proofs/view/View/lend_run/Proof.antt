@@ -45,7 +45,7 @@ use Rattle.std.proofs.raw_atomic.Walks.{proved_at}
 use Rattle.art_c.proofs.held.Held.TheLaws as held
 use Rattle.art_c.proofs.Behind.{either_seen}
 use Rattle.art_c_maps.proofs.LoanSteps.{tells, Good, otherwise}
-use Rattle.art_c.specs.Handles.{entries_of, held_row}
+use Rattle.art_c.specs.Handles.{held_entries, held_row}
 use Rattle.art_c.specs.Kinds.{found_in, numbers_of}
 use Rattle.art_c.specs.Views.{seen_behind}
 use Rattle.art_c_maps.specs.Entries.{entries_from}
@@ -107,7 +107,7 @@ lend_run_spec {M} 𝓤 𝓛 𝓜 𝓡 wired =
     use1 𝓛 (‵ (Two.own_val (made, 0) (u ∷ []))) (id⊢ 𝓤 _) $
     returns ! (look_at ! 0 refl) $ free_all ! refl $ keep ! (4 ∷ 1 ∷ 2 ∷ 3 ∷ 0 ∷ []) $
     suffices ! _ (ends_at 𝓛 f.ended hs c z u (made, 0) (me, (tt, (tt, tt))) (tt, (tt, (tt, tt)))) $
-    says ! (record { counts = refl; first = refl; some = λ _. ap (λ seen. From (entries_of (found_in numbers_of seen))) none; lent = refl }, refl) $
+    says ! (record { counts = refl; first = refl; some = λ _. ap (λ seen. From (held_entries (found_in numbers_of seen))) none; lent = refl }, refl) $
     group ! 3 $ nothing ! $ nothing ! $ fjoin ! $ nothing ! $ fjoin ! $ move ! (1 ∷ 0 ∷ []) $ join ! $ nothing ! $ move ! (2 ∷ 0 ∷ []) $ join ! $ frame ! $ frame ! $ done !)
     (λ wrong. absurd wrong))
     (λ bb bo x there at may. let word = lowers.val_is me us is ∙ ap (λ (p : Ptr). lowers.lowered (record me { ptr = p }) ∷ []) at in
@@ -133,7 +133,7 @@ lend_run_spec {M} 𝓤 𝓛 𝓜 𝓡 wired =
     rewrite ! 10 (λ (vs : List Val). ‵ (fsep (u64.own_val from (vint w64 from ∷ [])) (fsep (bool.own_val inclusive vs) ftrue))) are.1.1.0 refl $
     move ! (0 ∷ 10 ∷ []) $ fjoin ! $ move ! (1 ∷ 0 ∷ []) $ fjoin ! $ nothing ! $ move ! (3 ∷ 0 ∷ []) $ join ! $ join ! $ nothing ! $ move ! (1 ∷ 0 ∷ []) $ use2 𝓛 (raw (G.pre y)) (id⊢ 𝓤 _) $
     calls_at_last ! (framed 𝓤 H 𝓜 𝓣) G (met 𝓤 𝓛 𝓜 𝓡 (code.calls-art_c::held::Held::lend_run 𝓡.env wired)) y (and_then ! (get ! refl) (and_then ! (get ! refl) (and_then ! (get ! refl) (and_then ! (get ! refl) (no_more !))))) (λ v.
-    use1 𝓛 (later (some (λ (r : Two.Denot). ((‵ (flft life me.share) ⊛ ‵ ftrue) ⊛ ‵ (Two.own_val r (v ∷ []))) ⊛ some (λ (ws : Lasts g.ended y.0.0 y.0.3). ‵ (lasts g.ended y.0.0 y.0.3 ws) ⊛ raw (fact 𝓤 (LendsRun life (From (entries_of (numbers_of x))) r.0 r.1)))))) (id⊢ 𝓤 (G.post y v)) $
+    use1 𝓛 (later (some (λ (r : Two.Denot). ((‵ (flft life me.share) ⊛ ‵ ftrue) ⊛ ‵ (Two.own_val r (v ∷ []))) ⊛ some (λ (ws : Lasts g.ended y.0.0 y.0.3). ‵ (lasts g.ended y.0.0 y.0.3 ws) ⊛ raw (fact 𝓤 (LendsRun life (From (held_entries (numbers_of x))) r.0 r.1)))))) (id⊢ 𝓤 (G.post y v)) $
     await ! tt $ pick ! (λ r. split ! $ move ! (1 ∷ []) $ pick ! (λ ws. split ! $ drop ! $ heard ! _ (λ said. split ! $ move ! (1 ∷ []) $
     -- [the run and its count; the token, and nothing; the `&`; the fields; the view's cell; the open borrow, in three; where the view is; nothing, twice]
     tells ! Two (tuple_laws (Run.the_row ∷ usize ∷ []) (run.the_row_laws, (of_field usize-field usize-laws refl (copy_shared usize-field usize-copy), tt))) r (v ∷ []) (λ w is_w good.
@@ -147,5 +147,5 @@ lend_run_spec {M} 𝓤 𝓛 𝓜 𝓡 wired =
     move ! (1 ∷ 0 ∷ []) $ fjoin ! $ move ! (3 ∷ 0 ∷ []) $ fjoin ! $ move ! (3 ∷ 0 ∷ 4 ∷ 5 ∷ 6 ∷ []) $ closes ! tt Self me us b o $
     -- [what is seen of the view's name, and its borrow; the token; nothing; the run and its count; where the view is; nothing, twice]
     returns ! (look_at ! 0 refl) $ free_all ! refl $ keep ! (5 ∷ 0 ∷ 1 ∷ 2 ∷ 4 ∷ []) $
-    suffices ! _ (ends_at 𝓛 f.ended hs c z v r (me, (tt, (tt, tt))) (tt, (tt, (tt, tt)))) $ says ! (subst (λ (seen : Option held_row.Denot). LendsRun life (From (entries_of (found_in numbers_of seen))) r.0 r.1) (sym there) said, refl) $
+    suffices ! _ (ends_at 𝓛 f.ended hs c z v r (me, (tt, (tt, tt))) (tt, (tt, (tt, tt)))) $ says ! (subst (λ (seen : Option held_row.Denot). LendsRun life (From (held_entries (found_in numbers_of seen))) r.0 r.1) (sym there) said, refl) $
     group ! 3 $ nothing ! $ nothing ! $ fjoin ! $ nothing ! $ fjoin ! $ move ! (1 ∷ 0 ∷ []) $ join ! $ nothing ! $ move ! (2 ∷ 0 ∷ []) $ join ! $ frame ! $ frame ! $ done !)))))))))))

@@ -1,7 +1,7 @@
 use Rattle.std.proofs.Common.{◌≡◌, ◌∙◌, ℕ, ◌+◌, [], string_bytes, refl, sym, ap, subst, option_map, rules, append-nil, None}
 use Rattle.art_steps.specs.Dictionary.{entry_at}
 use Rattle.art_cli.specs.Find.{with_text}
-use Rattle.art_cli.specs.Answer.{IsCarriedOut, IsAnswer, answer_text, removal_text}
+use Rattle.art_cli.specs.Answer.{IsCarriedOut, IsFindAnswer, answer_text, removal_text}
 use Rattle.program_lines.specs.Lines.{line}
 use Rattle.art_cli.proofs.FindLemmas.{number_taken, admitted, holds_inserted, holds_removed}
 use Rattle.art_cli.proofs.find.carry_out.carry_out.Goals as goal
@@ -42,7 +42,7 @@ pub returns-in_ok-print_answer-in-Find-clause-carried_out :
     goal.returns-in_ok-print_answer-in-Find-clause-carried_out
 returns-in_ok-print_answer-in-Find-clause-carried_out g c = λ entries holds next.
     let text = g.K.AsBytes.text in
-    let is = subst (λ x. IsAnswer entries x c.answer-answer.result.0 c.answer-answer.result.1) c.as_bytes-in-Find.ensures.text (c.answer-answer.ensures entries holds) in
+    let is = subst (λ x. IsFindAnswer entries x c.answer-answer.result.0 c.answer-answer.result.1) c.as_bytes-in-Find.ensures.text (c.answer-answer.ensures entries holds) in
     subst (λ command. IsCarriedOut text entries (with_text text command) c.args.tree.now.arena (string_bytes c.args.text.now) (string_bytes c.print_answer.new.text) c.args.next) (sym c.in-Find.is) record {
       admitted = tt;
       reply = (line (answer_text c.answer-answer.result.0 c.answer-answer.result.1), c.in_ok-print_answer-in-Find.ensures, (c.answer-answer.result.0, c.answer-answer.result.1, is, refl));

@@ -3,7 +3,7 @@ use Rattle.std.proofs.lemmas.Option.{same_Some}
 use Rattle.std.specs.Option.{ForSome, option_map}
 use Rattle.art_nodes.specs.Pointers.{slab_key}
 use Rattle.art_arena.specs.Links.{HoldsLeaf}
-use Rattle.art_arena.proofs.LeafLemmas.{ForSome-held, apart-from_next, HoldsLeaf-previous, Spells-placed_after, StandsBetween-at}
+use Rattle.art_arena.proofs.LeafLemmas.{ForSome-held, apart-from_next, HoldsLeaf-previous, IsLinkedList-placed_after, StandsBetween-at}
 use Rattle.art_links.proofs.leaf_links.LeafNodeLeafLinks.insert_after.Goals as goal
 
 pub link_between-requires : goal.link_between-requires
@@ -24,8 +24,8 @@ returns-clause-placed g c = StandsBetween-at _ _ _ _ _ _ _ refl c.next_of-after.
 pub returns-clause-contents : goal.returns-clause-contents
 returns-clause-contents g c = c.link_between.ensures.contents
 
-pub returns-clause-spelled : goal.returns-clause-spelled
-returns-clause-spelled g c = λ before after spells. Spells-placed_after c.args.arena.now c.link_between.new.arena before after _ _ (StandsBetween-at _ _ _ _ _ _ _ refl c.next_of-after.ensures c.link_between.ensures.placed) c.link_between.ensures.contents c.requires.held c.requires.unlinked c.requires.apart spells
+pub returns-clause-linked : goal.returns-clause-linked
+returns-clause-linked g c = λ before after is_list. IsLinkedList-placed_after c.args.arena.now c.link_between.new.arena before after _ _ (StandsBetween-at _ _ _ _ _ _ _ refl c.next_of-after.ensures c.link_between.ensures.placed) c.link_between.ensures.contents c.requires.held c.requires.unlinked c.requires.apart is_list
 
 pub returns-clause-room : goal.returns-clause-room
 returns-clause-room g c = search

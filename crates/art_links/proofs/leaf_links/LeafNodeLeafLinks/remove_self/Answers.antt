@@ -2,7 +2,7 @@ use Rattle.std.proofs.Common.{◌∙◌, sym, ap}
 use Rattle.std.specs.Option.{ForSome, option_map}
 use Rattle.art_nodes.specs.Pointers.{slab_key}
 use Rattle.art_arena.specs.Links.{HoldsLeaf}
-use Rattle.art_arena.proofs.LeafLemmas.{HoldsLeaf-previous, HoldsLeaf-next, Joins-at, Spells-removed, own_links}
+use Rattle.art_arena.proofs.LeafLemmas.{HoldsLeaf-previous, HoldsLeaf-next, Joins-at, IsLinkedList-removed, own_links}
 use Rattle.art_links.proofs.leaf_links.LeafNodeLeafLinks.remove_self.Goals as goal
 
 pub join-requires : goal.join-requires
@@ -16,8 +16,8 @@ join-requires g c =
 pub returns-clause-removed : goal.returns-clause-removed
 returns-clause-removed g c = Joins-at c.args.arena.now c.join.new.arena _ _ _ _ c.neighbours_of-before.ensures.previous c.neighbours_of-before.ensures.next c.join.ensures.joined
 
-pub returns-clause-spelled : goal.returns-clause-spelled
-returns-clause-spelled g c = λ before after spells. Spells-removed c.args.arena.now c.join.new.arena before after (slab_key c.args.this) (Joins-at c.args.arena.now c.join.new.arena _ _ _ _ c.neighbours_of-before.ensures.previous c.neighbours_of-before.ensures.next c.join.ensures.joined) c.join.ensures.contents spells
+pub returns-clause-linked : goal.returns-clause-linked
+returns-clause-linked g c = λ before after is_list. IsLinkedList-removed c.args.arena.now c.join.new.arena before after (slab_key c.args.this) (Joins-at c.args.arena.now c.join.new.arena _ _ _ _ c.neighbours_of-before.ensures.previous c.neighbours_of-before.ensures.next c.join.ensures.joined) c.join.ensures.contents is_list
 
 pub returns-clause-own_previous : goal.returns-clause-own_previous
 returns-clause-own_previous g c = (own_links c.args.arena.now c.join.new.arena (slab_key c.args.this) c.requires (Joins-at c.args.arena.now c.join.new.arena _ _ _ _ c.neighbours_of-before.ensures.previous c.neighbours_of-before.ensures.next c.join.ensures.joined)).0

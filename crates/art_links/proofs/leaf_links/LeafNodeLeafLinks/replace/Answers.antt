@@ -2,7 +2,7 @@ use Rattle.std.proofs.Common.{◌≢◌, ◌∙◌, Some, sym, ap}
 use Rattle.std.specs.Option.{ForSome, option_map}
 use Rattle.art_nodes.specs.Pointers.{slab_key}
 use Rattle.art_arena.specs.Links.{HoldsLeaf}
-use Rattle.art_arena.proofs.LeafLemmas.{apart-from_next, apart-from_previous, HoldsLeaf-previous, HoldsLeaf-next, HoldsLeaf-kept, StandsBetween-at, TakesPlace-cut, SameButLinks-trans, Spells-replaced}
+use Rattle.art_arena.proofs.LeafLemmas.{apart-from_next, apart-from_previous, HoldsLeaf-previous, HoldsLeaf-next, HoldsLeaf-kept, StandsBetween-at, TakesPlace-cut, SameButLinks-trans, IsLinkedList-replaced}
 use Rattle.art_links.proofs.leaf_links.LeafNodeLeafLinks.replace.Goals as goal
 
 pub link_between-requires : goal.link_between-requires
@@ -30,8 +30,8 @@ returns-clause-replaced g c =
 pub returns-clause-contents : goal.returns-clause-contents
 returns-clause-contents g c = SameButLinks-trans c.args.arena.now c.link_between.new.arena c.set_both.new.arena c.link_between.ensures.contents c.set_both.ensures.set.contents
 
-pub returns-clause-spelled : goal.returns-clause-spelled
-returns-clause-spelled g c = λ before after spells. Spells-replaced c.args.arena.now c.set_both.new.arena before after (slab_key c.args.old) (slab_key c.args.this) (returns-clause-replaced g c) (returns-clause-contents g c) c.requires.held c.requires.unlinked c.requires.apart spells
+pub returns-clause-linked : goal.returns-clause-linked
+returns-clause-linked g c = λ before after is_list. IsLinkedList-replaced c.args.arena.now c.set_both.new.arena before after (slab_key c.args.old) (slab_key c.args.this) (returns-clause-replaced g c) (returns-clause-contents g c) c.requires.held c.requires.unlinked c.requires.apart is_list
 
 pub returns-clause-room : goal.returns-clause-room
 returns-clause-room g c = λ kind. c.set_both.ensures.room kind ∙ c.link_between.ensures.room kind

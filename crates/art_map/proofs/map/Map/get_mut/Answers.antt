@@ -5,11 +5,11 @@ use Rattle.std.specs.Option.{option_copied_mut, option_map}
 use Rattle.std.specs.Prelude.{slice_get}
 use Rattle.art_arena.specs.Links.{with_value_at}
 use Rattle.art_nodes.specs.Pointers.{slab_key}
-use Rattle.art_pages.specs.Contents.{set_value_at, with_value}
+use Rattle.art_pages.specs.Contents.{page_with_value, set_value_at}
 use Rattle.art_pages.specs.Entries.{IsOrdered, get_by}
 use Rattle.art_pages.proofs.OrderLemmas.{ordered-same}
 use Rattle.art_map.specs.Pages.{map_entries, IsMap}
-use Rattle.art_map.specs.Spots.{IsSpot, IsSpotInLeaf}
+use Rattle.art_map.specs.Spots.{IsPageSpot, IsSpotInLeaf}
 use Rattle.art_map.specs.Trees.{pages_in, pages_of}
 use Rattle.art_map.proofs.SpotLemmas.{spot-none, spot-head, value-in-head, set-in-head, kept-in-head, value-in-leaf, set-in-leaf, kept-in-leaf}
 use Rattle.art_map.proofs.map.Map.get_mut.Goals as goal
@@ -18,7 +18,7 @@ pub returns-in_default : goal.returns-in_default
 returns-in_default g c =
     let compare = g.Q.RadixQuery.compare c.args.key in let x = g.Q.RadixQuery.encoded c.args.key in
     let head = c.self.inside.head.entries in let tree = c.self.inside.tree in
-    let spot = subst (λ place. IsSpot compare x head (λ tree. tree.value.arena) tree c.find-leaf.result.0 place) c.in_default.is c.find-leaf.ensures in (
+    let spot = subst (λ place. IsPageSpot compare x head (λ tree. tree.value.arena) tree c.find-leaf.result.0 place) c.in_default.is c.find-leaf.ensures in (
       (λ i. inr (c.self.view_is i)),
       record {
         writes_back = tt;
@@ -32,8 +32,8 @@ invariant_of-self-lent g c =
     let compare = g.Q.RadixQuery.compare c.args.key in let x = g.Q.RadixQuery.encoded c.args.key in
     let head = c.self.inside.head.entries in let tree = c.self.inside.tree in
     let spot = spot-head (λ tree. tree.value.arena) x head compare (Ok c.in-Ok.place) tree
-    (subst (λ leaf. IsSpot compare x head (λ tree. tree.value.arena) tree leaf (Ok c.in-Ok.place)) c.in-None.is
-    (subst (λ place. IsSpot compare x head (λ tree. tree.value.arena) tree c.find-leaf.result.0 place) c.in-Ok.is c.find-leaf.ensures)) in
+    (subst (λ leaf. IsPageSpot compare x head (λ tree. tree.value.arena) tree leaf (Ok c.in-Ok.place)) c.in-None.is
+    (subst (λ place. IsPageSpot compare x head (λ tree. tree.value.arena) tree c.find-leaf.result.0 place) c.in-Ok.is c.find-leaf.ensures)) in
     λ w. kept-in-head g.K.KeyBytes.order g.K.KeyBytes.is_key g.K.KeyBytes.encoded compare x head c.in-Ok.place c.self.inside.len w
     (pages_in (λ tree. pages_of tree.value.arena) tree) c.self.invariant spot
 
@@ -43,8 +43,8 @@ returns-in-None g c =
     let head = c.self.inside.head.entries in let tree = c.self.inside.tree in let place = c.in-Ok.place in
     let others = pages_in (λ tree. pages_of tree.value.arena) tree in
     let spot = spot-head (λ tree. tree.value.arena) x head compare (Ok place) tree
-    (subst (λ leaf. IsSpot compare x head (λ tree. tree.value.arena) tree leaf (Ok place)) c.in-None.is
-    (subst (λ place. IsSpot compare x head (λ tree. tree.value.arena) tree c.find-leaf.result.0 place) c.in-Ok.is c.find-leaf.ensures)) in (
+    (subst (λ leaf. IsPageSpot compare x head (λ tree. tree.value.arena) tree leaf (Ok place)) c.in-None.is
+    (subst (λ place. IsPageSpot compare x head (λ tree. tree.value.arena) tree c.find-leaf.result.0 place) c.in-Ok.is c.find-leaf.ensures)) in (
       (λ i. inl (c.value_mut.result.ghost_name, λ w. (set-in-head compare x head others place spot w ∙ ap (λ l. set_value (is_at compare) l w) c.self.view_is) i)),
       record {
         writes_back = tt;
@@ -59,9 +59,9 @@ value_mut-requires-in-Some-as_mut g c =
     let head = c.self.inside.head.entries in let place = c.in-Ok.place in let tree = c.deref_mut.result.now in
     let spot : IsSpotInLeaf compare x head tree.arena c.in-Some.leaf (Ok place) =
     subst (λ (t : _). IsSpotInLeaf compare x head t.arena c.in-Some.leaf (Ok place)) (sym c.deref_mut.ensures.value)
-    (subst (λ tree. IsSpot compare x head (λ tree. tree.value.arena) tree (Some c.in-Some.leaf) (Ok place)) (sym c.as_mut.ensures.value ∙ ap option_copied_mut c.in-Some-as_mut.is)
-    (subst (λ leaf. IsSpot compare x head (λ tree. tree.value.arena) c.self.inside.tree leaf (Ok place)) c.in-Some.is
-    (subst (λ place. IsSpot compare x head (λ tree. tree.value.arena) c.self.inside.tree c.find-leaf.result.0 place) c.in-Ok.is c.find-leaf.ensures))) in
+    (subst (λ tree. IsPageSpot compare x head (λ tree. tree.value.arena) tree (Some c.in-Some.leaf) (Ok place)) (sym c.as_mut.ensures.value ∙ ap option_copied_mut c.in-Some-as_mut.is)
+    (subst (λ leaf. IsPageSpot compare x head (λ tree. tree.value.arena) c.self.inside.tree leaf (Ok place)) c.in-Some.is
+    (subst (λ place. IsPageSpot compare x head (λ tree. tree.value.arena) c.self.inside.tree c.find-leaf.result.0 place) c.in-Ok.is c.find-leaf.ensures))) in
     subst (λ (p : _). place < length p.entries) (sym (c.page_mut.ensures.page spot.here)) spot.at.0
 
 pub invariant_of-self-lent-in-Some-as_mut : goal.invariant_of-self-lent-in-Some-as_mut
@@ -71,13 +71,13 @@ invariant_of-self-lent-in-Some-as_mut g c =
     let head = c.self.inside.head.entries in let place = c.in-Ok.place in let tree = c.deref_mut.result.now in let leaf = c.in-Some.leaf in
     let spot : IsSpotInLeaf compare x head tree.arena leaf (Ok place) =
     subst (λ (t : _). IsSpotInLeaf compare x head t.arena leaf (Ok place)) (sym c.deref_mut.ensures.value)
-    (subst (λ tree. IsSpot compare x head (λ tree. tree.value.arena) tree (Some leaf) (Ok place)) (sym c.as_mut.ensures.value ∙ ap option_copied_mut c.in-Some-as_mut.is)
-    (subst (λ leaf. IsSpot compare x head (λ tree. tree.value.arena) c.self.inside.tree leaf (Ok place)) c.in-Some.is
-    (subst (λ place. IsSpot compare x head (λ tree. tree.value.arena) c.self.inside.tree c.find-leaf.result.0 place) c.in-Ok.is c.find-leaf.ensures))) in
+    (subst (λ tree. IsPageSpot compare x head (λ tree. tree.value.arena) tree (Some leaf) (Ok place)) (sym c.as_mut.ensures.value ∙ ap option_copied_mut c.in-Some-as_mut.is)
+    (subst (λ leaf. IsPageSpot compare x head (λ tree. tree.value.arena) c.self.inside.tree leaf (Ok place)) c.in-Some.is
+    (subst (λ place. IsPageSpot compare x head (λ tree. tree.value.arena) c.self.inside.tree c.find-leaf.result.0 place) c.in-Ok.is c.find-leaf.ensures))) in
     let kept : IsMap order is_key encoded head (pages_of tree.arena) × (len ≡ length (map_entries head (pages_of tree.arena))) =
     subst (λ (t : _). IsMap order is_key encoded head (pages_of t.arena) × (len ≡ length (map_entries head (pages_of t.arena)))) (sym c.deref_mut.ensures.value)
     (subst (λ tree. IsMap order is_key encoded head (pages_in (λ tree. pages_of tree.value.arena) tree) × (len ≡ length (map_entries head (pages_in (λ tree. pages_of tree.value.arena) tree)))) (sym c.as_mut.ensures.value ∙ ap option_copied_mut c.in-Some-as_mut.is) c.self.invariant) in
-    (λ w. let page = with_value c.page_mut.result.now place w in
+    (λ w. let page = page_with_value c.page_mut.result.now place w in
     kept-in-leaf order is_key encoded compare x head place len w tree.arena (with_value_at tree.arena (slab_key leaf) page) leaf page kept spot
     (ap (λ (p : _). set_value_at p.entries place w) (c.page_mut.ensures.page spot.here)) (c.page_mut.ensures.changes spot.here page))
 
@@ -87,9 +87,9 @@ returns-in-Some-as_mut g c =
     let head = c.self.inside.head.entries in let place = c.in-Ok.place in let tree = c.deref_mut.result.now in let leaf = c.in-Some.leaf in
     let spot : IsSpotInLeaf compare x head tree.arena leaf (Ok place) =
     subst (λ (t : _). IsSpotInLeaf compare x head t.arena leaf (Ok place)) (sym c.deref_mut.ensures.value)
-    (subst (λ tree. IsSpot compare x head (λ tree. tree.value.arena) tree (Some leaf) (Ok place)) (sym c.as_mut.ensures.value ∙ ap option_copied_mut c.in-Some-as_mut.is)
-    (subst (λ leaf. IsSpot compare x head (λ tree. tree.value.arena) c.self.inside.tree leaf (Ok place)) c.in-Some.is
-    (subst (λ place. IsSpot compare x head (λ tree. tree.value.arena) c.self.inside.tree c.find-leaf.result.0 place) c.in-Ok.is c.find-leaf.ensures))) in
+    (subst (λ tree. IsPageSpot compare x head (λ tree. tree.value.arena) tree (Some leaf) (Ok place)) (sym c.as_mut.ensures.value ∙ ap option_copied_mut c.in-Some-as_mut.is)
+    (subst (λ leaf. IsPageSpot compare x head (λ tree. tree.value.arena) c.self.inside.tree leaf (Ok place)) c.in-Some.is
+    (subst (λ place. IsPageSpot compare x head (λ tree. tree.value.arena) c.self.inside.tree c.find-leaf.result.0 place) c.in-Ok.is c.find-leaf.ensures))) in
     let all : map_entries head (pages_of tree.arena) ≡ c.args.self.now =
     ap (λ (t : _). map_entries head (pages_of t.arena)) c.deref_mut.ensures.value
     ∙ ap (λ tree. map_entries head (pages_in (λ tree. pages_of tree.value.arena) tree)) (sym (sym c.as_mut.ensures.value ∙ ap option_copied_mut c.in-Some-as_mut.is)) ∙ c.self.view_is in
@@ -97,7 +97,7 @@ returns-in-Some-as_mut g c =
       (λ i. inl (
         lent.ghost_name,
         λ w. (
-            let page = with_value c.page_mut.result.now place w in
+            let page = page_with_value c.page_mut.result.now place w in
             set-in-leaf compare x head tree.arena leaf (with_value_at tree.arena (slab_key leaf) page) page place spot w
             (ap (λ (p : _). set_value_at p.entries place w) (c.page_mut.ensures.page spot.here)) (c.page_mut.ensures.changes spot.here page)
             ∙ ap (λ l. set_value (is_at compare) l w) all) i,

@@ -5,11 +5,11 @@ use Rattle.std.specs.Option.{UnwrapsOrElse, option_copied_mut, option_map}
 use Rattle.std.specs.Prelude.{slice_get}
 use Rattle.art_arena.specs.Links.{with_value_at}
 use Rattle.art_nodes.specs.Pointers.{slab_key}
-use Rattle.art_pages.specs.Contents.{set_value_at, with_value}
+use Rattle.art_pages.specs.Contents.{page_with_value, set_value_at}
 use Rattle.art_pages.specs.Entries.{IsOrdered, get_by}
 use Rattle.art_pages.proofs.OrderLemmas.{ordered-same}
 use Rattle.art_map.specs.Pages.{map_entries, IsMap}
-use Rattle.art_map.specs.Spots.{IsSpot, IsSpotInLeaf}
+use Rattle.art_map.specs.Spots.{IsPageSpot, IsSpotInLeaf}
 use Rattle.art_map.specs.Trees.{pages_in, pages_of}
 use Rattle.art_map.proofs.SpotLemmas.{spot-head, spot-inserts, value-in-head, set-in-head, kept-in-head, value-in-leaf, set-in-leaf, kept-in-leaf}
 use Rattle.art_map.proofs.ValueLemmas.{entered-inserts, entered-length, entered-value}
@@ -22,7 +22,7 @@ invariant_of-self-lent g c =
     let head = c.enter.new.head.entries in let place = c.in_ok-spot.spot.place in let more = c.in_ok-spot.spot.more in let len = c.self.inside.len in
     let others = pages_in (λ tree. pages_of tree.value.arena) c.enter.new.tree in
     let spot = spot-head (λ tree. tree.value.arena) x head (cmp key) (Ok place) c.enter.new.tree
-    (subst (λ leaf. IsSpot (cmp key) x head (λ tree. tree.value.arena) c.enter.new.tree leaf (Ok place)) c.in-None.is c.in_ok-spot.ensures.spot) in
+    (subst (λ leaf. IsPageSpot (cmp key) x head (λ tree. tree.value.arena) c.enter.new.tree leaf (Ok place)) c.in-None.is c.in_ok-spot.ensures.spot) in
     let kept : IsMap order is_key encoded head others × (len + more ≡ length (map_entries head others)) = (c.enter.ensures.map, entered-length cmp total key _ _ _ more c.in_ok-spot.ensures.entered len c.self.invariant.1) in
     λ w. kept-in-head order is_key encoded (cmp key) x head place (len + more) w others kept spot
 
@@ -33,7 +33,7 @@ returns-in-None g c =
     let head = c.enter.new.head.entries in let place = c.in_ok-spot.spot.place in let more = c.in_ok-spot.spot.more in let len = c.self.inside.len in
     let others = pages_in (λ tree. pages_of tree.value.arena) c.enter.new.tree in
     let spot = spot-head (λ tree. tree.value.arena) x head (cmp key) (Ok place) c.enter.new.tree
-    (subst (λ leaf. IsSpot (cmp key) x head (λ tree. tree.value.arena) c.enter.new.tree leaf (Ok place)) c.in-None.is c.in_ok-spot.ensures.spot) in (
+    (subst (λ leaf. IsPageSpot (cmp key) x head (λ tree. tree.value.arena) c.enter.new.tree leaf (Ok place)) c.in-None.is c.in_ok-spot.ensures.spot) in (
       (λ i. inl (
         c.value_mut.result.ghost_name,
         λ w. (set-in-head (cmp key) x head others place spot w
@@ -59,8 +59,8 @@ value_mut-requires-in-Some-as_mut g c =
     let tree = c.deref_mut.result.now in let leaf = c.in-Some.leaf in
     let spot : IsSpotInLeaf (cmp key) x head tree.arena leaf (Ok place) =
     subst (λ (t : _). IsSpotInLeaf (cmp key) x head t.arena leaf (Ok place)) (sym c.deref_mut.ensures.value)
-    (subst (λ tree. IsSpot (cmp key) x head (λ tree. tree.value.arena) tree (Some leaf) (Ok place)) (sym c.as_mut.ensures.value ∙ ap option_copied_mut c.in-Some-as_mut.is)
-    (subst (λ leaf. IsSpot (cmp key) x head (λ tree. tree.value.arena) c.enter.new.tree leaf (Ok place)) c.in-Some.is c.in_ok-spot.ensures.spot)) in
+    (subst (λ tree. IsPageSpot (cmp key) x head (λ tree. tree.value.arena) tree (Some leaf) (Ok place)) (sym c.as_mut.ensures.value ∙ ap option_copied_mut c.in-Some-as_mut.is)
+    (subst (λ leaf. IsPageSpot (cmp key) x head (λ tree. tree.value.arena) c.enter.new.tree leaf (Ok place)) c.in-Some.is c.in_ok-spot.ensures.spot)) in
     subst (λ (p : _). place < length p.entries) (sym (c.page_mut.ensures.page spot.here)) spot.at.0
 
 pub invariant_of-self-lent-in-Some : goal.invariant_of-self-lent-in-Some
@@ -71,13 +71,13 @@ invariant_of-self-lent-in-Some g c =
     let tree = c.deref_mut.result.now in let leaf = c.in-Some.leaf in
     let spot : IsSpotInLeaf (cmp key) x head tree.arena leaf (Ok place) =
     subst (λ (t : _). IsSpotInLeaf (cmp key) x head t.arena leaf (Ok place)) (sym c.deref_mut.ensures.value)
-    (subst (λ tree. IsSpot (cmp key) x head (λ tree. tree.value.arena) tree (Some leaf) (Ok place)) (sym c.as_mut.ensures.value ∙ ap option_copied_mut c.in-Some-as_mut.is)
-    (subst (λ leaf. IsSpot (cmp key) x head (λ tree. tree.value.arena) c.enter.new.tree leaf (Ok place)) c.in-Some.is c.in_ok-spot.ensures.spot)) in
+    (subst (λ tree. IsPageSpot (cmp key) x head (λ tree. tree.value.arena) tree (Some leaf) (Ok place)) (sym c.as_mut.ensures.value ∙ ap option_copied_mut c.in-Some-as_mut.is)
+    (subst (λ leaf. IsPageSpot (cmp key) x head (λ tree. tree.value.arena) c.enter.new.tree leaf (Ok place)) c.in-Some.is c.in_ok-spot.ensures.spot)) in
     let kept : IsMap order is_key encoded head (pages_of tree.arena) × (len + more ≡ length (map_entries head (pages_of tree.arena))) =
     subst (λ (t : _). IsMap order is_key encoded head (pages_of t.arena) × (len + more ≡ length (map_entries head (pages_of t.arena)))) (sym c.deref_mut.ensures.value)
     (subst (λ tree. IsMap order is_key encoded head (pages_in (λ tree. pages_of tree.value.arena) tree) × (len + more ≡ length (map_entries head (pages_in (λ tree. pages_of tree.value.arena) tree)))) (sym c.as_mut.ensures.value ∙ ap option_copied_mut c.in-Some-as_mut.is)
     (c.enter.ensures.map, entered-length cmp total key _ _ _ more c.in_ok-spot.ensures.entered len c.self.invariant.1)) in
-    (λ w. let page = with_value c.page_mut.result.now place w in
+    (λ w. let page = page_with_value c.page_mut.result.now place w in
     kept-in-leaf order is_key encoded (cmp key) x head place (len + more) w tree.arena (with_value_at tree.arena (slab_key leaf) page) leaf page kept spot
     (ap (λ (p : _). set_value_at p.entries place w) (c.page_mut.ensures.page spot.here)) (c.page_mut.ensures.changes spot.here page))
 
@@ -89,8 +89,8 @@ returns-in-Some-as_mut g c =
     let tree = c.deref_mut.result.now in let leaf = c.in-Some.leaf in
     let spot : IsSpotInLeaf (cmp key) x head tree.arena leaf (Ok place) =
     subst (λ (t : _). IsSpotInLeaf (cmp key) x head t.arena leaf (Ok place)) (sym c.deref_mut.ensures.value)
-    (subst (λ tree. IsSpot (cmp key) x head (λ tree. tree.value.arena) tree (Some leaf) (Ok place)) (sym c.as_mut.ensures.value ∙ ap option_copied_mut c.in-Some-as_mut.is)
-    (subst (λ leaf. IsSpot (cmp key) x head (λ tree. tree.value.arena) c.enter.new.tree leaf (Ok place)) c.in-Some.is c.in_ok-spot.ensures.spot)) in
+    (subst (λ tree. IsPageSpot (cmp key) x head (λ tree. tree.value.arena) tree (Some leaf) (Ok place)) (sym c.as_mut.ensures.value ∙ ap option_copied_mut c.in-Some-as_mut.is)
+    (subst (λ leaf. IsPageSpot (cmp key) x head (λ tree. tree.value.arena) c.enter.new.tree leaf (Ok place)) c.in-Some.is c.in_ok-spot.ensures.spot)) in
     let all : map_entries head (pages_of tree.arena) ≡ map_entries head (pages_in (λ tree. pages_of tree.value.arena) c.enter.new.tree) =
     ap (λ (t : _). map_entries head (pages_of t.arena)) c.deref_mut.ensures.value
     ∙ ap (λ tree. map_entries head (pages_in (λ tree. pages_of tree.value.arena) tree)) (sym (sym c.as_mut.ensures.value ∙ ap option_copied_mut c.in-Some-as_mut.is)) in
@@ -98,7 +98,7 @@ returns-in-Some-as_mut g c =
       (λ i. inl (
         lent.ghost_name,
         λ w. (
-            let page = with_value c.page_mut.result.now place w in
+            let page = page_with_value c.page_mut.result.now place w in
             set-in-leaf (cmp key) x head tree.arena leaf (with_value_at tree.arena (slab_key leaf) page) page place spot w
             (ap (λ (p : _). set_value_at p.entries place w) (c.page_mut.ensures.page spot.here)) (c.page_mut.ensures.changes spot.here page)
             ∙ ap (λ l. set_value (is_at (cmp key)) l w) all

@@ -2,7 +2,7 @@ use Rattle.std.proofs.Common.{◌∙◌, take, drop, Err, ap, sym}
 use Rattle.std.proofs.lemmas.List.{take-append-drop}
 use Rattle.std.specs.BTreeMap.{insert_entry}
 use Rattle.std.specs.Prelude.{insert}
-use Rattle.art_pages.specs.Contents.{Contents}
+use Rattle.art_pages.specs.Contents.{PageContents}
 use Rattle.art_pages.specs.Entries.{IsIndexable}
 use Rattle.art_pages.proofs.KeptLemmas.{IsKept, kept-same, kept-insert, place-view, either}
 use Rattle.art_pages.proofs.MiddleLemmas.{insert_entry-gap}
@@ -34,4 +34,4 @@ returns-clause-entries g c =
     c.in_ok-insert.ensures.items
     ∙ sym (insert_entry-gap cmp c.args.key c.args.value (take c.args.place pairs) (drop c.args.place pairs) gap.1 gap.2)
     ∙ ap (λ l. insert_entry cmp l c.args.key c.args.value) (take-append-drop c.args.place pairs)
-    ∙ ap (λ (page : Contents _ _). insert_entry cmp page.entries c.args.key c.args.value) c.self.view_is
+    ∙ ap (λ (page : PageContents _ _). insert_entry cmp page.entries c.args.key c.args.value) c.self.view_is

@@ -1,6 +1,6 @@
 use Rattle.std.proofs.Common.{◌≡◌, ◌+◌, ◌++◌, take, drop, Some, subst}
 use Rattle.std.specs.Prelude.{slice_get}
-use Rattle.art_pages.specs.Contents.{Contents}
+use Rattle.art_pages.specs.Contents.{PageContents}
 use Rattle.art_pages.specs.Entries.{IsIndexable}
 use Rattle.art_pages.proofs.KeptLemmas.{kept-same, kept-without, within-view}
 use Rattle.art_pages.proofs.ValueLemmas.{slice_get-is}
@@ -16,5 +16,5 @@ invariant_of-self g c =
 pub returns-clause-entry : goal.returns-clause-entry
 returns-clause-entry g c =
     let within = within-view _ c.args.self.now c.self.view_is c.args.place c.requires in
-    subst (λ (page : Contents _ _). slice_get page.entries c.args.place ≡ Some c.remove.result) c.self.view_is
+    subst (λ (page : PageContents _ _). slice_get page.entries c.args.place ≡ Some c.remove.result) c.self.view_is
     (slice_get-is c.self.inside.pairs.items c.args.place c.remove.result within c.remove.ensures.value)

@@ -1,7 +1,7 @@
 use Rattle.std.proofs.Common.{◌≡◌, ◌∙◌, Some, ap, sym, subst}
 use Rattle.std.specs.Option.{option_map}
 use Rattle.std.specs.Prelude.{slice_get}
-use Rattle.art_pages.specs.Contents.{Contents, with_value}
+use Rattle.art_pages.specs.Contents.{PageContents, page_with_value}
 use Rattle.art_pages.specs.Entries.{IsIndexable}
 use Rattle.art_pages.proofs.KeptLemmas.{kept-same, kept-value, within-view, value-view}
 use Rattle.art_pages.proofs.ValueLemmas.{slice_get-is, set-is}
@@ -18,7 +18,7 @@ invariant_of-self g c =
 pub returns-clause-value : goal.returns-clause-value
 returns-clause-value g c =
     let within = within-view _ c.args.self.now c.self.view_is c.args.place c.requires in
-    subst (λ (page : Contents _ _). option_map (λ (entry : _ × _). entry.1) (slice_get page.entries c.args.place) ≡ Some c.replace.result) c.self.view_is
+    subst (λ (page : PageContents _ _). option_map (λ (entry : _ × _). entry.1) (slice_get page.entries c.args.place) ≡ Some c.replace.result) c.self.view_is
     (ap (option_map (λ (entry : _ × _). entry.1)) (slice_get-is c.self.inside.pairs.items c.args.place c.index_mut.result.now within c.index_mut.ensures.value) ∙ ap Some (sym c.replace.ensures.value))
 
 pub returns-clause-page : goal.returns-clause-page
@@ -26,4 +26,4 @@ returns-clause-page g c =
     let within = within-view _ c.args.self.now c.self.view_is c.args.place c.requires in
     value-view _ c.args.self.now c.self.view_is c.args.place c.replace.new.dest _
     (set-is c.self.inside.pairs.items c.args.place c.index_mut.result.now c.replace.new.dest within c.index_mut.ensures.value)
-    ∙ ap (with_value c.args.self.now c.args.place) c.replace.ensures.after
+    ∙ ap (page_with_value c.args.self.now c.args.place) c.replace.ensures.after

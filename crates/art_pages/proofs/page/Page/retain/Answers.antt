@@ -1,5 +1,5 @@
 use Rattle.std.proofs.Common.{length, ap, arith}
-use Rattle.art_pages.specs.Contents.{Contents}
+use Rattle.art_pages.specs.Contents.{PageContents}
 use Rattle.art_pages.specs.Entries.{IsIndexable}
 use Rattle.art_pages.proofs.RetainLemmas.{keys-retained, ordered-retained, pairs-shorter, retains-pairs}
 use Rattle.art_pages.proofs.page.Page.retain.Goals as goal
@@ -30,5 +30,5 @@ pub returns-else-gone-ne0-clause-gone : goal.returns-else-gone-ne0-clause-gone
 returns-else-gone-ne0-clause-gone g c =
     let step = g.F.Keeps.step in let old = c.self.inside.pairs in let new = c.retain_pairs.new.pairs in
     let shorter = pairs-shorter step old.items new.items c.args.test.now (retains-pairs step old.items new.items c.args.test.now c.retain_pairs.new.test c.retain_pairs.ensures.retained) in
-    let was = ap (λ (page : Contents _ _). length page.entries) c.self.view_is in
+    let was = ap (λ (page : PageContents _ _). length page.entries) c.self.view_is in
     omega (arith, shorter, was, old.ok.0, new.ok.0, c.len-before.ensures, c.len.ensures)

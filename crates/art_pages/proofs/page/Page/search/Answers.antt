@@ -1,5 +1,5 @@
 use Rattle.std.proofs.Common.{subst}
-use Rattle.art_pages.specs.Contents.{Contents}
+use Rattle.art_pages.specs.Contents.{PageContents}
 use Rattle.art_pages.specs.Entries.{IsPlaceOf}
 use Rattle.art_pages.proofs.OrderLemmas.{ordered-same}
 use Rattle.art_pages.proofs.PlaceLemmas.{query_divides, beside-placed}
@@ -13,5 +13,5 @@ returns-in-Some g c =
     let divides = query_divides g.K.Ord.cmp g.K.KeyBytes.is_key g.K.KeyBytes.encoded g.met.K.RadixKey.sorted compare (g.Q.RadixQuery.encoded c.args.query)
     (λ x is. g.met.Q.RadixQuery.agrees c.args.query x c.encoded_len-len.ensures.query is) pairs
     (ordered-same g.K.KeyBytes.order g.K.Ord.cmp pairs g.met.K.RadixKey.ordered c.self.invariant.0) c.self.invariant.1 in
-    subst (λ (page : Contents _ _). IsPlaceOf compare page.entries c.in-Some.place) c.self.view_is
+    subst (λ (page : PageContents _ _). IsPlaceOf compare page.entries c.in-Some.place) c.self.view_is
     (beside-placed compare pairs divides c.in-Some.place (rw c.as_slice-pairs.ensures.value at c.in-Some.ensures))

@@ -1,7 +1,7 @@
 use Rattle.std.proofs.Common.{subst, rules}
 use Rattle.std.proofs.lemmas.Fn.{always_returns_same}
 use Rattle.std.specs.Ordering.{ordering_reverse}
-use Rattle.art_pages.specs.Contents.{Contents}
+use Rattle.art_pages.specs.Contents.{PageContents}
 use Rattle.art_pages.specs.Entries.{IsPlaceOf}
 use Rattle.art_pages.proofs.OrderLemmas.{ordered-same}
 use Rattle.art_pages.proofs.PlaceLemmas.{query_divides, placed}
@@ -17,5 +17,5 @@ returns g c =
     (ordered-same g.K.KeyBytes.order g.K.Ord.cmp pairs g.met.K.RadixKey.ordered c.self.invariant.0) c.self.invariant.1 in
     let found = c.binary_search_by.ensures in
     let position = found.position (λ entry. ordering_reverse (compare entry.0)) (always_returns_same _ _ _ (λ a r now called. search rules)) in
-    subst (λ (page : Contents _ _). IsPlaceOf compare page.entries c.binary_search_by.result) c.self.view_is
+    subst (λ (page : PageContents _ _). IsPlaceOf compare page.entries c.binary_search_by.result) c.self.view_is
     (placed compare pairs divides c.binary_search_by.result (rw c.deref.ensures.value at found.bound) (rw c.deref.ensures.value at position))

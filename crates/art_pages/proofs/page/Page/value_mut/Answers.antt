@@ -1,7 +1,7 @@
 use Rattle.std.proofs.Common.{◌≡◌, Some, ap, refl, subst}
 use Rattle.std.specs.Option.{option_map}
 use Rattle.std.specs.Prelude.{slice_get}
-use Rattle.art_pages.specs.Contents.{Contents}
+use Rattle.art_pages.specs.Contents.{PageContents}
 use Rattle.art_pages.specs.Entries.{IsIndexable}
 use Rattle.art_pages.proofs.KeptLemmas.{kept-same, kept-value, within-view, value-view}
 use Rattle.art_pages.proofs.ValueLemmas.{slice_get-is, set-is}
@@ -22,7 +22,7 @@ returns g c =
       (refl, λ w. value-view _ c.args.self.now c.self.view_is c.args.place w _ (set-is pairs c.args.place pair w within c.index_mut.ensures.value)),
       record {
         writes_back = tt;
-        value = subst (λ (page : Contents _ _). option_map (λ (entry : _ × _). entry.1) (slice_get page.entries c.args.place) ≡ Some pair.1) c.self.view_is
+        value = subst (λ (page : PageContents _ _). option_map (λ (entry : _ × _). entry.1) (slice_get page.entries c.args.place) ≡ Some pair.1) c.self.view_is
             (ap (option_map (λ (entry : _ × _). entry.1)) (slice_get-is pairs c.args.place pair within c.index_mut.ensures.value));
       },
     )

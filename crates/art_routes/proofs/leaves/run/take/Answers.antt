@@ -1,4 +1,4 @@
-use Rattle.art_routes.proofs.LeafNames.{IsTaken, Nothing, Some, ap, at_end, held, leaf_at, leaf_pointer, refl, run_entries, slab_key, subst, sym, ◌∙◌, ◌≡◌, ◌≢◌}
+use Rattle.art_routes.proofs.LeafNames.{IsEndAndRest, Nothing, Some, ap, at_end, held, leaf_at, leaf_pointer, refl, run_entries, slab_key, subst, sym, ◌∙◌, ◌≡◌, ◌≢◌}
 use Rattle.art_routes.proofs.LinkLemmas.{leaf-pointer-fits}
 use Rattle.art_routes.proofs.ListLemmas.{slot-of}
 use Rattle.art_routes.proofs.RunLemmas.{end-held}
@@ -17,6 +17,6 @@ returns g c =
     let (rest, taken) = c.ends_without.ensures arena c.requires here arena (λ key differ. refl) in
     record {
       taken =
-          subst (λ entry. IsTaken c.args.end (run_entries arena (Some c.args.ends)) entry (run_entries arena c.ends_without.result)) (λ i. (sym c.entry_ref.ensures.key i, sym c.entry_ref.ensures.value i)) taken;
+          subst (λ entry. IsEndAndRest c.args.end (run_entries arena (Some c.args.ends)) entry (run_entries arena c.ends_without.result)) (λ i. (sym c.entry_ref.ensures.key i, sym c.entry_ref.ensures.value i)) taken;
       rest = rest;
     }

@@ -1,4 +1,4 @@
-use Rattle.art_routes.proofs.LeafNames.{IsTaken, Nothing, Some, ap, at_end, held, leaf_at, leaf_pointer, run_entries, slab_key, subst, sym, ◌∙◌, ◌≡◌, ◌≢◌}
+use Rattle.art_routes.proofs.LeafNames.{IsEndAndRest, Nothing, Some, ap, at_end, held, leaf_at, leaf_pointer, run_entries, slab_key, subst, sym, ◌∙◌, ◌≡◌, ◌≢◌}
 use Rattle.art_routes.proofs.LinkLemmas.{leaf-pointer-fits}
 use Rattle.art_routes.proofs.ListLemmas.{slot-of}
 use Rattle.art_routes.proofs.RunLemmas.{end-held, others-stay}
@@ -21,6 +21,6 @@ returns g c =
     let (rest, taken) = c.ends_without-rest.ensures old c.requires here new (λ key differ. others-stay old new at c.deallocate_node_ptr-leaf.ensures.removed key (λ is. differ (is ∙ same))) in
     record {
       taken =
-          subst (λ entry. IsTaken c.args.end (run_entries old (Some c.args.ends)) entry (run_entries new c.ends_without-rest.result)) (λ i. (sym c.into_entry.ensures.key i, sym c.into_entry.ensures.value i)) taken;
+          subst (λ entry. IsEndAndRest c.args.end (run_entries old (Some c.args.ends)) entry (run_entries new c.ends_without-rest.result)) (λ i. (sym c.into_entry.ensures.key i, sym c.into_entry.ensures.value i)) taken;
       rest = rest;
     }

@@ -3,7 +3,7 @@ use Rattle.std.specs.BTreeMap.{is_at}
 use Rattle.std.specs.BTreeSet.{insert_key, replace_key}
 use Rattle.std.specs.List.Sorted.{IsStrictlySortedBy}
 use Rattle.std.specs.Map.{keys_of}
-use Rattle.art_set.specs.KeyLists.{contains_by, get_by}
+use Rattle.art_set.specs.KeyLists.{contains_by, find_by}
 use Rattle.art_set.proofs.ListLemmas.{gets-key, some-found}
 use Rattle.art_set.proofs.ReplacedKeys.{length-replaced, replaced-anew, replaced-there}
 use Rattle.art_set.proofs.set.Set.replace.Goals as goal
@@ -30,7 +30,7 @@ pub returns-in-Ok-insert-clause-keys : goal.returns-in-Ok-insert-clause-keys
 returns-in-Ok-insert-clause-keys g c =
     let cmp = g.K.Ord.cmp in let key = c.args.key in let keys = c.args.self.now in
     let kept : keys_of c.replace_key.new.self ≡ keys = ap keys_of c.in-Err.ensures.err ∙ c.self.view_is in
-    let none : None ≡ get_by (cmp key) keys = sym c.in-Err.ensures.absent ∙ gets-key c.self.inside.entries keys c.self.view_is (cmp key) in
+    let none : None ≡ find_by (cmp key) keys = sym c.in-Err.ensures.absent ∙ gets-key c.self.inside.entries keys c.self.view_is (cmp key) in
     let lacks : contains_by (cmp key) keys ≡ false = sym (some-found (is_at (cmp key)) keys) ∙ ap is_some (sym none) in
     c.in-Ok-insert.ensures.keys ∙ (λ i. insert_key cmp (kept i) (c.in-Err.ensures.returned i)) ∙ replaced-anew cmp key keys lacks
 
@@ -38,7 +38,7 @@ pub returns-in-Ok-insert-clause-len : goal.returns-in-Ok-insert-clause-len
 returns-in-Ok-insert-clause-len g c =
     let cmp = g.K.Ord.cmp in let key = c.args.key in let keys = c.args.self.now in
     let kept : keys_of c.replace_key.new.self ≡ keys = ap keys_of c.in-Err.ensures.err ∙ c.self.view_is in
-    let none : None ≡ get_by (cmp key) keys = sym c.in-Err.ensures.absent ∙ gets-key c.self.inside.entries keys c.self.view_is (cmp key) in
+    let none : None ≡ find_by (cmp key) keys = sym c.in-Err.ensures.absent ∙ gets-key c.self.inside.entries keys c.self.view_is (cmp key) in
     let lacks : contains_by (cmp key) keys ≡ false = sym (some-found (is_at (cmp key)) keys) ∙ ap is_some (sym none) in
     let added = c.in-Ok-insert.ensures.added ∙ (λ i. not (contains_by (cmp (c.in-Err.ensures.returned i)) (kept i))) ∙ ap not lacks in
     c.in-Ok-insert.ensures.len ∙ (λ i. length (kept i) + cond (added i) 1 0)

@@ -68,7 +68,7 @@ moving-preserved g c =
           let found : slice_get before (length before - 1) ≡ Some sibling = ap (λ xs. slice_get xs (length xs - 1)) (sym c.deref.ensures.value) ∙ sym c.last.ensures.value ∙ ap option_copied w.in-Some-last.is in
           let front = take (length before - 1) before in
           let split = last-split before sibling found in
-          let linked = next-linked old new w.insert_after.new.arena linking.done before front entry this sibling split (next-member new) a w.insert_after.ensures.contents w.insert_after.ensures.placed w.insert_after.ensures.spelled in
+          let linked = next-linked old new w.insert_after.new.arena linking.done before front entry this sibling split (next-member new) a w.insert_after.ensures.contents w.insert_after.ensures.placed w.insert_after.ensures.linked in
           record {
             linking = record { done = linking.done ++ entry ∷ []; split = whole; linked = subst (λ x. AreLinked old x (linking.done ++ entry ∷ []) c.push_reserved.new.self.items) (sym w.arena-is) (subst (AreLinked old w.insert_after.new.arena (linking.done ++ entry ∷ [])) (sym c.push_reserved.ensures.items) linked) };
             room = omega (arith, ap (λ x. room x LeafKind) w.arena-is, same-room new w.insert_after.new.arena w.insert_after.ensures.room LeafKind, rooms, one, c.next.ensures.len, c.moving.invariant.room);

@@ -6,7 +6,7 @@ use Rattle.std.proofs.lemmas.List.{length-map}
 use Rattle.program_lines.specs.Lines.{line, lines_of}
 use Rattle.words.specs.declared.dictionary.Word.{Word}
 use Rattle.words.specs.Dictionaries.{IsDictionary}
-use Rattle.words.specs.Places.{words_of}
+use Rattle.words.specs.Places.{entry_words}
 use Rattle.words.specs.Replies.{counts}
 use Rattle.words.proofs.ReplyLemmas.{lines_are}
 use Rattle.words.proofs.replies.WordsProgram.load.Goals as goal
@@ -14,11 +14,11 @@ use Rattle.words.proofs.replies.WordsProgram.load.Goals as goal
 pub returns-clause-table : goal.returns-clause-table
 returns-clause-table c =
     let list = lines_are (lines_of c.args.list.now) c.in_ok-words.words.items c.in_ok-words.ensures.all in
-    ((c.in_ok-words.words.items, c.in_ok-words.ensures.all, subst (λ lines. IsDictionary lines (words_of c.in_ok-dictionary.dictionary)) (ap (map (λ word. word.bytes.now)) c.deref.ensures.value ∙ list) c.in_ok-dictionary.ensures.words), c.in_ok-dictionary.ensures.places)
+    ((c.in_ok-words.words.items, c.in_ok-words.ensures.all, subst (λ lines. IsDictionary lines (entry_words c.in_ok-dictionary.dictionary)) (ap (map (λ word. word.bytes.now)) c.deref.ensures.value ∙ list) c.in_ok-dictionary.ensures.words), c.in_ok-dictionary.ensures.places)
 
 pub returns-clause-heading : goal.returns-clause-heading
 returns-clause-heading c =
-    let words : List (List ℕ) = words_of c.in_ok-dictionary.dictionary in
+    let words : List (List ℕ) = entry_words c.in_ok-dictionary.dictionary in
     let list = lines_are (lines_of c.args.list.now) c.in_ok-words.words.items c.in_ok-words.ensures.all in
     let bytes : Word → List ℕ = λ word. word.bytes.now in
     let first : c.len.result ≡ length c.in_ok-dictionary.dictionary = search rules in

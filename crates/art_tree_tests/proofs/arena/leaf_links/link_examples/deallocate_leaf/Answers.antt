@@ -14,12 +14,12 @@ leaf-in (Some leaf) None same = absurd (cc)
 leaf-in {H = H} {L = L} (Some leaf) (Some other) same = let one : ◌≡◌ {A = Held H L} (HeldLeaf leaf) (HeldLeaf other) = same in cc
 
 pub returns-clause-list : goal.returns-clause-list
-returns-clause-list g c = λ leaves others spelled.
+returns-clause-list g c = λ leaves others is_linked.
     let old = c.args.arena.now in
     let new = c.deallocate_node_ptr.new.self in
     let gone = slab_key c.args.leaf in
     c.lists_are_spelled_where_their_leaves_are_kept.ensures old new leaves
-    (All-weaker (λ key. key ≢ gone) (λ key. leaf_at new key ≡ leaf_at old key) (λ key differs. leaf-in (leaf_at new key) (leaf_at old key) (c.deallocate_node_ptr.ensures.removed.others (opaque_pointer NodeType.Leaf key) (λ same. differs (ap opaque_key same)))) leaves others) spelled
+    (All-weaker (λ key. key ≢ gone) (λ key. leaf_at new key ≡ leaf_at old key) (λ key differs. leaf-in (leaf_at new key) (leaf_at old key) (c.deallocate_node_ptr.ensures.removed.others (opaque_pointer NodeType.Leaf key) (λ same. differs (ap opaque_key same)))) leaves others) is_linked
 
 pub returns-clause-tree : goal.returns-clause-tree
 returns-clause-tree g c = λ root tree others is.

@@ -1,9 +1,9 @@
-use Rattle.art_steps.proofs.Names.{◌≡◌, ◌≢◌, ◌∙◌, ◌&&◌, Bool, true, false, refl, sym, subst, arith, rules, nat_tests, most_children, node_kind, opaque_key, held, HeldInner, Nothing, IsHung, LeafKind, HasRoomFor}
+use Rattle.art_steps.proofs.Names.{◌≡◌, ◌≢◌, ◌∙◌, ◌&&◌, Bool, true, false, refl, sym, subst, arith, rules, nat_tests, most_children, node_kind, opaque_key, held, HeldInner, Nothing, IsChildOrRoot, LeafKind, HasRoomFor}
 use denote.Enum.Bare.{same_true}
 use Rattle.art_header.specs.contracts.node_type.NodeType.{the_type}
 use Rattle.art_nodes.specs.Inner.{Inner}
-use Rattle.art_steps.proofs.SharedLemmas.ParentLemmas.{hung-there, is-parent}
-use Rattle.art_steps.proofs.parent.hang.Goals as goal
+use Rattle.art_steps.proofs.SharedLemmas.ParentLemmas.{child_or_root-there, is-parent}
+use Rattle.art_steps.proofs.parent.put_child_or_root.Goals as goal
 
 pub write_child-requires : goal.write_child-requires
 write_child-requires g c =
@@ -21,8 +21,8 @@ both : (a b : Bool) → a && b ≡ true → (a ≡ true) × (b ≡ true)
 both true b is = (refl, is)
 both false b is = absurd (cc)
 
-pub returns-then-eq-clause-hung : goal.returns-then-eq-clause-hung
-returns-then-eq-clause-hung g c =
+pub returns-then-eq-clause-placed : goal.returns-then-eq-clause-placed
+returns-then-eq-clause-placed g c =
     let arena = c.args.arena.now in
     let node = c.args.node in
     let before = c.args.before in
@@ -30,4 +30,4 @@ returns-then-eq-clause-hung g c =
     let kind : node_kind node ≡ node_kind before = same_true the_type (search rules) _ _ equal.0 in
     let key : opaque_key node ≡ opaque_key before = grind (arith, nat_tests, equal.1) in
     let same : node ≡ before = (λ i. record { node_type = kind i; key = key i; leaf = record {} }) in
-    subst (λ child. IsHung arena arena c.args.parent child c.args.root c.args.root) (sym same) (hung-there arena c.args.parent c.in-Some.parent c.in-Some.byte before c.args.root c.requires c.in-Some.is)
+    subst (λ child. IsChildOrRoot arena arena c.args.parent child c.args.root c.args.root) (sym same) (child_or_root-there arena c.args.parent c.in-Some.parent c.in-Some.byte before c.args.root c.requires c.in-Some.is)

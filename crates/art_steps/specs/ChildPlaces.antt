@@ -31,12 +31,12 @@ module _ {H : Type 0} where
       (b : ℕ) × (others : ChildMap H) × (pairs_on end children byte ≡ put_at end (b, child) others)
 
 -- the leaf is beside a gap between these leaves
-abbrev pub StandsBeside : {H : Type 0} → End → List (H × List ℕ) → List (H × List ℕ) → H → Type 0
-StandsBeside end left right pointer = (text : List ℕ) × IsBeside end left right (pointer, text)
+abbrev pub IsLeafBeside : {H : Type 0} → End → List (H × List ℕ) → List (H × List ℕ) → H → Type 0
+IsLeafBeside end left right pointer = (text : List ℕ) × IsBeside end left right (pointer, text)
 
 module _ {K V : Type 0} {P : ℕ} where
   -- a sound inner node stands at the pointer, and a new byte goes between these of its branches
-  pub record HasPlaceAt (text : K → List ℕ) (arena : NodeArena K V P) (pointer : OpaqueNodePtr K V P) (byte : ℕ) : Type 0 where
+  pub record HasGapUnder (text : K → List ℕ) (arena : NodeArena K V P) (pointer : OpaqueNodePtr K V P) (byte : ℕ) : Type 0 where
     pub path : List ℕ
     pub prefix : List ℕ
     pub before : Branches (OpaqueNodePtr K V P)
@@ -46,16 +46,16 @@ module _ {K V : Type 0} {P : ℕ} where
     pub sides : (end : End) → pairs_on end (branch_roots (join before after)) byte ≡ branch_roots (branches_on end before after)
 
   -- the parent, if there is one, is an inner node whose bytes ascend, with this child under the byte
-  abbrev pub CanHang : NodeArena K V P → Option (OpaqueNodePtr K V P × ℕ) → OpaqueNodePtr K V P → Type 0
-  CanHang arena None child = Unit {0}
-  CanHang arena (Some (parent, byte)) child =
+  abbrev pub HasChildUnder : NodeArena K V P → Option (OpaqueNodePtr K V P × ℕ) → OpaqueNodePtr K V P → Type 0
+  HasChildUnder arena None child = Unit {0}
+  HasChildUnder arena (Some (parent, byte)) child =
       (node : nodes.Inner (OpaqueNodePtr K V P)) × (held arena parent ≡ HeldInner node)
       × (child_at node.children byte ≡ Some child) × IsAscending (key_bytes node.children)
 
   -- the node is the child of the parent under the byte now; or, where there is no parent, the root
-  abbrev pub IsHung : NodeArena K V P → NodeArena K V P → Option (OpaqueNodePtr K V P × ℕ) →
+  abbrev pub IsChildOrRoot : NodeArena K V P → NodeArena K V P → Option (OpaqueNodePtr K V P × ℕ) →
       OpaqueNodePtr K V P → OpaqueNodePtr K V P → OpaqueNodePtr K V P → Type 0
-  IsHung old new None node root now = SameNodes old new × (now ≡ node)
-  IsHung old new (Some (parent, byte)) node root now =
+  IsChildOrRoot old new None node root now = SameNodes old new × (now ≡ node)
+  IsChildOrRoot old new (Some (parent, byte)) node root now =
       (now ≡ root) × ((above : nodes.Inner (OpaqueNodePtr K V P)) → held old parent ≡ HeldInner above →
       Changes old new parent (HeldInner (nodes.node_with_child above byte node)))
