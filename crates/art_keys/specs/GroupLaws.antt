@@ -27,22 +27,22 @@ same_front (x ∷ front) a b = rw (tied x) (same_front front a b)
     tied : (x : ℕ) → nat_cmp x x ≡ Equal
     tied x = sym (nat_cmp_is x x Equal refl)
 
-nat_cmp-less : (m n : ℕ) → m < n → nat_cmp m n ≡ Less
-nat_cmp-less m n less = sym (nat_cmp_is m n Less less)
+less_is : (m n : ℕ) → m < n → nat_cmp m n ≡ Less
+less_is m n less = sym (nat_cmp_is m n Less less)
 
 -- zeros that end sooner are less
 zeros_less : (room used : ℕ) → used + room < 8 → (bytes r s : List ℕ) → text_order (replicate room 0 ++ used ∷ r) (grouped_from room bytes ++ s) ≡ Less
 zeros_less room used few [] r s =
-    rw (append_assoc (replicate room 0) ((8 - room) ∷ []) s, same_front (replicate room 0) (used ∷ r) ((8 - room) ∷ s), nat_cmp-less used (8 - room) (omega arith)) refl
-zeros_less zero used few (byte ∷ bytes) r s = rw (nat_cmp-less used 9 (omega arith)) refl
+    rw (append_assoc (replicate room 0) ((8 - room) ∷ []) s, same_front (replicate room 0) (used ∷ r) ((8 - room) ∷ s), less_is used (8 - room) (omega arith)) refl
+zeros_less zero used few (byte ∷ bytes) r s = rw (less_is used 9 (omega arith)) refl
 zeros_less (suc room) used few (zero ∷ bytes) r s = zeros_less room used (omega arith) bytes r s
-zeros_less (suc room) used few (suc byte ∷ bytes) r s = rw (nat_cmp-less 0 (suc byte) (omega arith)) refl
+zeros_less (suc room) used few (suc byte ∷ bytes) r s = rw (less_is 0 (suc byte) (omega arith)) refl
 
 end_less : (room : ℕ) → room ≤ 8 → (byte : ℕ) (bytes r s : List ℕ) → text_order (grouped_from room [] ++ r) (grouped_from room (byte ∷ bytes) ++ s) ≡ Less
 end_less zero most byte bytes r s = refl
 end_less (suc room) most zero bytes r s =
     rw (append_assoc (replicate room 0) ((8 - suc room) ∷ []) r) (zeros_less room (8 - suc room) (omega arith) bytes r s)
-end_less (suc room) most (suc byte) bytes r s = rw (nat_cmp-less 0 (suc byte) (omega arith)) refl
+end_less (suc room) most (suc byte) bytes r s = rw (less_is 0 (suc byte) (omega arith)) refl
 
 -- the groups sort as the bytes do, whatever follows
 pub groups_sort : (room : ℕ) → room ≤ 8 → (xs ys : List ℕ) → SortedBy (text_order xs ys) (grouped_from room xs) (grouped_from room ys)

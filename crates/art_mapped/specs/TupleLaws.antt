@@ -84,9 +84,9 @@ module _ {A B : Type 0} {front_in : A → Type 0} {front_text : A → List ℕ} 
   last_long text value v_in of = ap length (last.has_text of.1 value.1 v_in of.4) ∙ last.long value.1 v_in
 
   -- each side of the cut stands for some value
-  pub sides_of_cut : (text x y : List ℕ) → StandsForSome (Both front_in last_in) (StandsForBoth front_stands last_stands) text → text ≡ x ++ y → length y ≡ last_width
+  pub cut : (text x y : List ℕ) → StandsForSome (Both front_in last_in) (StandsForBoth front_stands last_stands) text → text ≡ x ++ y → length y ≡ last_width
       → StandsForSome front_in front_stands x × StandsForSome last_in last_stands y
-  sides_of_cut text x y some same long = (
+  cut text x y some same long = (
     ∥∥₁_map some (λ of. let sides = split_both text x y of.0 of.1.1 of.2 same long in (of.0.0, of.1.0, sides.0)),
     ∥∥₁_map some (λ of. let sides = split_both text x y of.0 of.1.1 of.2 same long in (of.0.1, of.1.1, sides.1)),
   )
@@ -114,7 +114,7 @@ module _ {A B : Type 0} {front_in : A → Type 0} {front_text : A → List ℕ} 
             let first = front_keys.values keys.0 are.0 in
             let later = last_keys.values keys.1 are.1 in (
               λ some.
-                  let sides = sides_of_cut (x ++ y) x y some refl (last_keys.long keys.1 are.1) in
+                  let sides = cut (x ++ y) x y some refl (last_keys.long keys.1 are.1) in
                   (first.0 sides.0, later.0 sides.1),
               λ both. joined_again (x ++ y) x y (first.1 both.0) (later.1 both.1) refl,
             );

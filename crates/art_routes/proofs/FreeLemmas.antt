@@ -18,7 +18,7 @@ use Rattle.art_routes.specs.KeyLaws.{width_most}
 use Rattle.art_routes.specs.Keys.{last_network}
 use Rattle.art_routes.specs.Networks.{Block, IsNetwork, covers, contains, first_bits, network_around, network_order}
 use Rattle.art_routes.specs.Tables.{IsShortest, NoneContains, covered}
-use Rattle.art_routes.specs.StrideLaws.{equal_is, less_is}
+use Rattle.art_routes.specs.StrideLaws.{equal_is, nat_cmp-less}
 use Rattle.art_routes.proofs.BitLemmas.{fewer_first, none_behind}
 use Rattle.art_routes.proofs.ChangeLemmas.{by-places}
 use Rattle.art_routes.proofs.CoverLemmas.{is-in, is-over, over-is}
@@ -36,7 +36,7 @@ later width size low bits less =
     let more : suc low * 2 ^ k ≤ bits * 2 ^ k = mul-le-mul_right (2 ^ k) less in
     let below : low * 2 ^ k < bits * 2 ^ k = omega (arith, more, pow_pos k) in
     ap (λ o. ordering_then o (ordering_then (nat_cmp (low * 2 ^ k) (bits * 2 ^ k)) (nat_cmp size size))) (equal_is width width refl)
-    ∙ ap (λ o. ordering_then o (nat_cmp size size)) (less_is (low * 2 ^ k) (bits * 2 ^ k) below)
+    ∙ ap (λ o. ordering_then o (nat_cmp size size)) (nat_cmp-less (low * 2 ^ k) (bits * 2 ^ k) below)
 
 all-later : (width size low bits count : ℕ) → low < bits → AllByRecursion (λ part. network_order (part_at width size low) part ≡ Less) (parts_from width size bits count)
 all-later width size low bits zero less = tt

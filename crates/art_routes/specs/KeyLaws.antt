@@ -11,7 +11,7 @@ use Rattle.art_bytes.specs.Text.{IsPrefixOf, text_order}
 use Rattle.art_routes.specs.declared.address.Address.{Address}
 use Rattle.art_routes.specs.Keys.{key_text, last_network_byte, left}
 use Rattle.art_routes.specs.Networks.{Block, IsNetwork, first_bits, network_order}
-use Rattle.art_routes.specs.StrideLaws.{AreAlone, Before, are_alone, equal_is, fewer_strides, head_less, head_same, less_is, no_prefix, same_strides, strides_bytes, strides_long, strides_order}
+use Rattle.art_routes.specs.StrideLaws.{AreAlone, Before, are_alone, equal_is, fewer_strides, head_less, head_same, nat_cmp-less, no_prefix, same_strides, strides_bytes, strides_long, strides_order}
 use Rattle.art_routes.specs.Strides.{strides}
 
 pub family_most : (width : ℕ) → (width ≡ 32) ⊎ (width ≡ 128) → width ≤ 128
@@ -89,9 +89,9 @@ key_less a b a_is b_is (inr (same, before)) =
     moved (inr (bits, shorter)) = inr (same_left a.address.width b.address.width a.address.bits b.address.bits same bits, omega (arith, shorter))
 
 order_less : (a b : Block) → Precedes a b → network_order a b ≡ Less
-order_less a b (inl less) = rw (less_is a.address.width b.address.width less) refl
-order_less a b (inr (same, inl less)) = rw (equal_is a.address.width b.address.width same, less_is a.address.bits b.address.bits less) refl
-order_less a b (inr (same, inr (bits, less))) = rw (equal_is a.address.width b.address.width same, equal_is a.address.bits b.address.bits bits, less_is a.length b.length less) refl
+order_less a b (inl less) = rw (nat_cmp-less a.address.width b.address.width less) refl
+order_less a b (inr (same, inl less)) = rw (equal_is a.address.width b.address.width same, nat_cmp-less a.address.bits b.address.bits less) refl
+order_less a b (inr (same, inr (bits, less))) = rw (equal_is a.address.width b.address.width same, equal_is a.address.bits b.address.bits bits, nat_cmp-less a.length b.length less) refl
 
 more_is : (x y : ℕ) → y < x → nat_cmp x y ≡ Greater
 more_is x y more = by_ranked (x < y) (x ≡ y) (y < x) (nat_cmp x y) (ranked x y (nat_cmp x y) refl) (λ is less. absurd (omega (arith, less, more))) (λ is same. absurd (omega (arith, more, same))) (λ is _. is)

@@ -69,8 +69,8 @@ stride_fits n fits = omega arith
 behind_fits : (n : ℕ) → bits_behind n < 2 ^ 128
 behind_fits n = omega arith
 
-pub less_is : (x y : ℕ) → x < y → nat_cmp x y ≡ Less
-less_is x y less = by_ranked (x < y) (x ≡ y) (y < x) (nat_cmp x y) (ranked x y (nat_cmp x y) refl) (λ is _. is) (λ is same. absurd (omega (arith, same, less))) (λ is more. absurd (omega (arith, more, less)))
+pub nat_cmp-less : (x y : ℕ) → x < y → nat_cmp x y ≡ Less
+nat_cmp-less x y less = by_ranked (x < y) (x ≡ y) (y < x) (nat_cmp x y) (ranked x y (nat_cmp x y) refl) (λ is _. is) (λ is same. absurd (omega (arith, same, less))) (λ is more. absurd (omega (arith, more, less)))
 
 pub equal_is : (x y : ℕ) → x ≡ y → nat_cmp x y ≡ Equal
 equal_is x y same = by_ranked (x < y) (x ≡ y) (y < x) (nat_cmp x y) (ranked x y (nat_cmp x y) refl) (λ is less. absurd (omega (arith, same, less))) (λ is _. is) (λ is more. absurd (omega (arith, more, same)))
@@ -80,7 +80,7 @@ abbrev pub Before : (n l m k : ℕ) → Type 0
 Before n l m k = (n < m) ⊎ ((n ≡ m) × (l < k))
 
 pub head_less : (x y : ℕ) (xs ys : List ℕ) → x < y → slice_cmp nat_cmp (x ∷ xs) (y ∷ ys) ≡ Less
-head_less x y xs ys less = rw (less_is x y less) refl
+head_less x y xs ys less = rw (nat_cmp-less x y less) refl
 
 pub head_same : (x y : ℕ) (xs ys : List ℕ) → x ≡ y → slice_cmp nat_cmp xs ys ≡ Less → slice_cmp nat_cmp (x ∷ xs) (y ∷ ys) ≡ Less
 head_same x y xs ys same rest = rw (equal_is x y same) rest

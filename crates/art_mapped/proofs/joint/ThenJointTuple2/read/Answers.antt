@@ -1,5 +1,5 @@
 use Rattle.std.proofs.Common.{◌≡◌, length, arith}
-use Rattle.art_mapped.specs.TupleLaws.{sides_of_cut, split_both}
+use Rattle.art_mapped.specs.TupleLaws.{cut, split_both}
 use Rattle.art_mapped.proofs.Cuts.{long_enough}
 use Rattle.art_mapped.proofs.joint.ThenJointTuple2.read.Goals as goal
 
@@ -17,7 +17,7 @@ read-requires g c =
     let y = c.split_at.result.1.now in
     let same = c.split_at.ensures.by_index.0 in
     let long : length y ≡ g.L.Joint.width = omega (arith, c.split_at.ensures.back_len, c.room.ensures, long_enough front last c.args.bytes.now c.requires) in
-    let sides = sides_of_cut front last c.args.bytes.now x y c.requires same long in
+    let sides = cut front last c.args.bytes.now x y c.requires same long in
     sides.0
 
 pub read-requires-2 : goal.read-requires-2
@@ -28,7 +28,7 @@ read-requires-2 g c =
     let y = c.split_at.result.1.now in
     let same = c.split_at.ensures.by_index.0 in
     let long : length y ≡ g.L.Joint.width = omega (arith, c.split_at.ensures.back_len, c.room.ensures, long_enough front last c.args.bytes.now c.requires) in
-    let sides = sides_of_cut front last c.args.bytes.now x y c.requires same long in
+    let sides = cut front last c.args.bytes.now x y c.requires same long in
     sides.1
 
 pub returns-clause-inverts : goal.returns-clause-inverts
