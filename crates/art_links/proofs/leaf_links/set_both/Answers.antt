@@ -1,4 +1,4 @@
-use Rattle.std.proofs.Common.{◌≡◌, Some, ap}
+use Rattle.std.proofs.Common.{◌<◌, ◌^◌, lit<, ◌≡◌, Some, ap}
 use Rattle.art_nodes.specs.Pointers.{slab_key}
 use Rattle.art_nodes.specs.Leaf.{leaf_key, leaf_value, previous_key, next_key}
 use Rattle.art_arena.specs.Links.{leaf_at}
@@ -15,3 +15,9 @@ returns-clause-set g c =
 
 pub returns-clause-room : goal.returns-clause-room
 returns-clause-room g c = c.as_mut.ensures.room c.set_links.new.self
+
+pub as_mut-requires : goal.as_mut-requires
+as_mut-requires g c = (search, (search, (search, (search, (search, (lit< tt, c.requires.held))))))
+
+pub set_links-requires : goal.set_links-requires
+set_links-requires g c = let word : 8 < 2 ^ 63 = lit< tt in search

@@ -1,4 +1,4 @@
-use Rattle.std.proofs.Common.{◌≡◌, ◌∙◌, Some, ap}
+use Rattle.std.proofs.Common.{lit<, ◌≡◌, ◌∙◌, Some, ap}
 use Rattle.std.specs.Option.{option_map}
 use Rattle.art_nodes.specs.Pointers.{slab_key}
 use Rattle.art_nodes.specs.Leaf.{leaf_key, leaf_value, previous_key, next_key}
@@ -21,3 +21,6 @@ returns-in_default-clause-set g c = SetsNext-none _ _ _ (ap (option_map slab_key
 
 pub returns-in-Some-clause-room : goal.returns-in-Some-clause-room
 returns-in-Some-clause-room g c = c.as_mut-leaf.ensures.room c.set_links.new.self
+
+pub as_mut-leaf-requires : goal.as_mut-leaf-requires
+as_mut-leaf-requires g c = (search, (search, (search, (search, (search, (lit< tt, c.requires.held _ c.in-Some.is))))))

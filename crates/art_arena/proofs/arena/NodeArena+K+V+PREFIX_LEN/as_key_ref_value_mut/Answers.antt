@@ -1,4 +1,4 @@
-use Rattle.std.proofs.Common.{◌≡◌, ◌∙◌, Some, refl, sym, ap, subst}
+use Rattle.std.proofs.Common.{lit<, ◌≡◌, ◌∙◌, Some, refl, sym, ap, subst}
 use Rattle.std.specs.Option.{option_map}
 use Rattle.art_header.specs.declared.node_type.NodeType.TheVariants as kinds
 use Rattle.art_nodes.specs.Pointers.{opaque_pointer}
@@ -23,3 +23,6 @@ returns g c =
         room = λ value. subst (λ new. SameRoom arena new) (sym (with_value_at-found arena key stood value found)) (c.as_mut.ensures.room (with_value stood value));
       },
     )
+
+pub as_mut-requires : goal.as_mut-requires
+as_mut-requires g c = (search, (search, (search, (search, (search, (lit< tt, c.requires))))))
