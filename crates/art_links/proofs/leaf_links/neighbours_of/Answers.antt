@@ -1,5 +1,5 @@
 use Rattle.std.proofs.Common.{lit<, ◌<◌, ◌^◌}
-use Rattle.art_arena.proofs.leaf_links.neighbours_of.Goals as goal
+use Rattle.art_links.proofs.leaf_links.neighbours_of.Goals as goal
 
 pub as_ref-leaf-requires : goal.as_ref-leaf-requires
 as_ref-leaf-requires g c = let word : 8 < 2 ^ 63 = lit< tt in search
