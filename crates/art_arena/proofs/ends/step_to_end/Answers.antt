@@ -1,4 +1,4 @@
-use Rattle.std.proofs.Common.{◌∙◌}
+use Rattle.std.proofs.Common.{lit<, ◌<◌, ◌^◌, ◌∙◌}
 use Rattle.art_arena.specs.InnerRef.{inner_shown}
 use Rattle.art_arena.specs.Reader.{shown}
 use Rattle.art_arena.proofs.StandingLaws.{inner-there}
@@ -14,3 +14,6 @@ returns-clause-child g c =
     let there = c.node_ref.ensures.node ∙ inner-there (shown c.node_ref.result) c.inner.result c.inner.ensures.node c.in_ok-node.node c.in_ok-node.was in
     let pair = c.end_child.ensures in
     (inner_shown c.in_ok-node.node, pair.0, there, pair.1)
+
+pub node_ref-requires : goal.node_ref-requires
+node_ref-requires g c = let word : 8 < 2 ^ 63 = lit< tt in search

@@ -1,4 +1,4 @@
-use Rattle.std.proofs.Common.{◌∙◌}
+use Rattle.std.proofs.Common.{lit<, ◌<◌, ◌^◌, ◌∙◌}
 use Rattle.art_arena.specs.InnerRef.{inner_shown}
 use Rattle.art_arena.specs.Reader.{shown}
 use Rattle.art_arena.proofs.StandingLaws.{inner-there}
@@ -13,3 +13,6 @@ pub returns-clause-child : goal.returns-clause-child
 returns-clause-child g c =
     let there = c.node_ref.ensures.node ∙ inner-there (shown c.node_ref.result) c.inner.result c.inner.ensures.node c.in_ok-node.node c.in_ok-node.was in
     (inner_shown c.in_ok-node.node, there, c.any_child_prefer_leaf.ensures)
+
+pub node_ref-requires : goal.node_ref-requires
+node_ref-requires g c = let word : 8 < 2 ^ 63 = lit< tt in search

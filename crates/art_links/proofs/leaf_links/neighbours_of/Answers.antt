@@ -3,3 +3,9 @@ use Rattle.art_links.proofs.leaf_links.neighbours_of.Goals as goal
 
 pub as_ref-leaf-requires : goal.as_ref-leaf-requires
 as_ref-leaf-requires g c = let word : 8 < 2 ^ 63 = lit< tt in search
+
+pub previous-requires : goal.previous-requires
+previous-requires g c = let word : 8 < 2 ^ 63 = lit< tt in search
+
+pub next-requires : goal.next-requires
+next-requires g c = let word : 8 < 2 ^ 63 = lit< tt in search

@@ -1,4 +1,4 @@
-use Rattle.std.proofs.Common.{lit<, ◌≡◌, ◌∙◌, Some, refl, sym, ap, subst}
+use Rattle.std.proofs.Common.{◌<◌, ◌^◌, lit<, ◌≡◌, ◌∙◌, Some, refl, sym, ap, subst}
 use Rattle.std.specs.Option.{option_map}
 use Rattle.art_header.specs.declared.node_type.NodeType.TheVariants as kinds
 use Rattle.art_nodes.specs.Pointers.{opaque_pointer}
@@ -26,3 +26,6 @@ returns g c =
 
 pub as_mut-requires : goal.as_mut-requires
 as_mut-requires g c = (search, (search, (search, (search, (search, (lit< tt, c.requires))))))
+
+pub key_ref_value_mut-requires : goal.key_ref_value_mut-requires
+key_ref_value_mut-requires g c = let word : 8 < 2 ^ 63 = lit< tt in search
