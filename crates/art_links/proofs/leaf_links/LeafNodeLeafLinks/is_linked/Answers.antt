@@ -1,9 +1,5 @@
-<<<<<<< HEAD:crates/art_links/proofs/leaf_links/LeafNodeLeafLinks/is_linked/Answers.antt
-use Rattle.art_links.proofs.leaf_links.LeafNodeLeafLinks.is_linked.Goals as goal
-=======
 use Rattle.std.proofs.Common.{lit<, ◌<◌, ◌^◌}
 use Rattle.art_links.proofs.leaf_links.LeafNodeLeafLinks.is_linked.Goals as goal
->>>>>>> devm3:crates/art_arena/proofs/leaf_links/LeafNodeLeafLinks/is_linked/Answers.antt
 
 pub as_ref-leaf-requires : goal.as_ref-leaf-requires
 as_ref-leaf-requires g c = search
