@@ -1,4 +1,3 @@
-use Rattle.std.proofs.Common.{lit<, ◌<◌, ◌^◌}
 use Rattle.art_arena.proofs.arena.NodeArena+K+V+PREFIX_LEN.reserve.Goals as goal
 
 pub returns-in-Node4 : goal.returns-in-Node4
@@ -15,18 +14,3 @@ returns-in-Node256 g c = rw c.in-Node256.is c.reserve_slots-in-Node256.ensures
 
 pub returns-in-Leaf : goal.returns-in-Leaf
 returns-in-Leaf g c = rw c.in-Leaf.is c.reserve_slots-in-Leaf.ensures
-
-pub reserve_slots-requires : goal.reserve_slots-requires
-reserve_slots-requires g c = let word : 8 < 2 ^ 63 = lit< tt in search
-
-pub reserve_slots-requires-in-Node16 : goal.reserve_slots-requires-in-Node16
-reserve_slots-requires-in-Node16 g c = let word : 8 < 2 ^ 63 = lit< tt in search
-
-pub reserve_slots-requires-in-Node48 : goal.reserve_slots-requires-in-Node48
-reserve_slots-requires-in-Node48 g c = let word : 8 < 2 ^ 63 = lit< tt in search
-
-pub reserve_slots-requires-in-Node256 : goal.reserve_slots-requires-in-Node256
-reserve_slots-requires-in-Node256 g c = let word : 8 < 2 ^ 63 = lit< tt in search
-
-pub reserve_slots-requires-in-Leaf : goal.reserve_slots-requires-in-Leaf
-reserve_slots-requires-in-Leaf g c = let word : 8 < 2 ^ 63 = lit< tt in search

@@ -1,4 +1,4 @@
-use Rattle.std.proofs.Common.{lit<, ◌^◌, ◌≡◌, ◌≢◌, ◌<◌, ◌∙◌, ◌↔◌, ◌++◌, refl, IsSome, length, length-drop, sym, ap, subst, drop, nat_eq, arith}
+use Rattle.std.proofs.Common.{◌≡◌, ◌≢◌, ◌<◌, ◌∙◌, ◌↔◌, ◌++◌, refl, IsSome, length, length-drop, sym, ap, subst, drop, nat_eq, arith}
 use Rattle.std.specs.List.{common_prefix_len}
 use Rattle.std.proofs.lemmas.List.Elements.{All-cons}
 use Rattle.std.proofs.lemmas.List.Sums.{common_prefix_len-le}
@@ -107,15 +107,3 @@ returns-clause-never_equal g c = λ equal.
     let order = order_in_rest prefix c.args.key.now c.args.depth c.min.result c.cmp.result c.min.ensures c.cmp.ensures in
     let parted : common_prefix_len nat_eq prefix rest ≢ length prefix = λ whole. c.if-matched_bytes-prefix.false (counted ∙ whole) in
     prefix_order-parted prefix rest parted (sym order ∙ equal)
-
-pub read_full_prefix-leaf_ptr-requires : goal.read_full_prefix-leaf_ptr-requires
-read_full_prefix-leaf_ptr-requires g c = let word : 8 < 2 ^ 63 = lit< tt in search
-
-pub returns-clause-leaf_below : goal.returns-clause-leaf_below
-returns-clause-leaf_below g c = c.read_full_prefix-leaf_ptr.ensures.leaf_below
-
-pub returns-clause-leaf_held : goal.returns-clause-leaf_held
-returns-clause-leaf_held g c = c.read_full_prefix-leaf_ptr.ensures.leaf_held
-
-pub returns-then-matched_bytes-prefix-clause-whole : goal.returns-then-matched_bytes-prefix-clause-whole
-returns-then-matched_bytes-prefix-clause-whole g c = c.if-matched_bytes-prefix.true ∙ c.read_full_prefix-leaf_ptr.ensures.length

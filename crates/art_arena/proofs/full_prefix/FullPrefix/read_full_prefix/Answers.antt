@@ -1,4 +1,4 @@
-use Rattle.std.proofs.Common.{lit<, ◌<◌, ◌^◌, ◌∙◌, ap, rules, arith}
+use Rattle.std.proofs.Common.{◌∙◌, ap, rules, arith}
 use Rattle.art_arena.specs.Arena.{held}
 use Rattle.art_arena.specs.Standing.{TreeAt, leaf_text}
 use Rattle.art_arena.proofs.WayLemmas.{IsSharedFrom-stored}
@@ -51,9 +51,3 @@ returns-then-prefix_len-clause-leaf_where_longer g c = (λ no. cc, λ longer. ab
 
 pub returns-clause-leaf_held : goal.returns-clause-leaf_held
 returns-clause-leaf_held g c = search
-
-pub as_ref-requires : goal.as_ref-requires
-as_ref-requires g c = let word : 8 < 2 ^ 63 = lit< tt in search
-
-pub key_ref-requires : goal.key_ref-requires
-key_ref-requires g c = let word : 8 < 2 ^ 63 = lit< tt in search
