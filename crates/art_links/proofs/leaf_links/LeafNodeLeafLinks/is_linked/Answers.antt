@@ -1,8 +1,4 @@
-use Rattle.std.proofs.Common.{lit<, ◌<◌, ◌^◌}
 use Rattle.art_links.proofs.leaf_links.LeafNodeLeafLinks.is_linked.Goals as goal
 
 pub as_ref-leaf-requires : goal.as_ref-leaf-requires
 as_ref-leaf-requires g c = search
-
-pub previous-requires : goal.previous-requires
-previous-requires g c = let word : 8 < 2 ^ 63 = lit< tt in search
