@@ -34,7 +34,7 @@ returns-in-First g c =
     record {
       was_free = free;
       entry = entry-held old now this leaf free changes new linked.contents c.args.key c.args.value c.with_no_siblings.ensures.key c.with_no_siblings.ensures.value;
-      is_linked = λ left right is_linked beside. list-with_before now new this (slab_key c.args.sibling) left right linked.is_linked (still-list old now this leaf free changes (left ++ right) is_linked) (subst (λ end. IsBeside end left right (slab_key c.args.sibling)) c.in-First.is beside);
+      linked = λ left right is_linked beside. list-with_before now new this (slab_key c.args.sibling) left right linked.linked (still-list old now this leaf free changes (left ++ right) is_linked) (subst (λ end. IsBeside end left right (slab_key c.args.sibling)) c.in-First.is beside);
       others = others-stay old now this leaf free changes new linked.contents;
       other_room = λ other differ. same-room now new linked.room other ∙ c.allocate_reserved-leaf.ensures.other_room other differ;
       capacity = λ kind. same-capacity now new linked.room kind ∙ c.allocate_reserved-leaf.ensures.capacity kind;
@@ -71,7 +71,7 @@ returns-in-Last g c =
     record {
       was_free = free;
       entry = entry-held old now this leaf free changes new linked.contents c.args.key c.args.value c.with_no_siblings.ensures.key c.with_no_siblings.ensures.value;
-      is_linked = λ left right is_linked beside. list-with_after now new this (slab_key c.args.sibling) left right linked.is_linked (still-list old now this leaf free changes (left ++ right) is_linked) (subst (λ end. IsBeside end left right (slab_key c.args.sibling)) c.in-Last.is beside);
+      linked = λ left right is_linked beside. list-with_after now new this (slab_key c.args.sibling) left right linked.linked (still-list old now this leaf free changes (left ++ right) is_linked) (subst (λ end. IsBeside end left right (slab_key c.args.sibling)) c.in-Last.is beside);
       others = others-stay old now this leaf free changes new linked.contents;
       other_room = λ other differ. same-room now new linked.room other ∙ c.allocate_reserved-leaf.ensures.other_room other differ;
       capacity = λ kind. same-capacity now new linked.room kind ∙ c.allocate_reserved-leaf.ensures.capacity kind;

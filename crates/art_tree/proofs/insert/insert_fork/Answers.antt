@@ -95,7 +95,7 @@ returns g c =
     let at_end = c.end_leaf-sibling.ensures.at_end (tree-there place) in
     let link = c.link_leaf-leaf.ensures in
     let added = fork-added place c.link_leaf-leaf.new.arena (leaf_pointer c.link_leaf-leaf.result) link.was_free link.others c.near_end-end.result (slab_key c.end_leaf-sibling.result) at_end c.trim.new.arena c.trim.ensures.leaf c.trim.ensures.trimmed c.args.value link.entry (slab_key c.link_leaf-leaf.result) refl
-    c.fork_node-node.new.arena c.fork_node-node.result (places-apart g.K.AsBytes.text) c.fork_node-node.ensures c.put_child_or_root.new.arena c.put_child_or_root.result c.put_child_or_root.ensures.placed c.requires.short c.near_end-end.ensures.end link.is_linked texts-apart in
+    c.fork_node-node.new.arena c.fork_node-node.result (places-apart g.K.AsBytes.text) c.fork_node-node.ensures c.put_child_or_root.new.arena c.put_child_or_root.result c.put_child_or_root.ensures.placed c.requires.short c.near_end-end.ensures.end link.linked texts-apart in
     record {
       art = added.0;
       leaf = added.2;
