@@ -12,7 +12,7 @@ use Rattle.art_keys.specs.EncodingLaws.{sorted_agrees}
 use Rattle.art_arena.specs.Arena.{LeafPtr, NodeArena}
 use Rattle.art_pages.specs.Contents.{PageContents}
 use Rattle.art_pages.specs.Entries.{IsOrdered, AreKeys, IsIndexable}
-use Rattle.art_pages.specs.Entries.{AllTextsBelow as KeysUnder}
+use Rattle.art_pages.specs.Entries.{AllBelow as KeysUnder}
 use Rattle.art_tree.specs.Entries.{entries_of}
 use Rattle.art_index.specs.Places.{AllTextsAbove, AllTextsBelow, IsFloor, IsNext, IsPlaced}
 use Rattle.art_index.proofs.BranchLemmas.{all-unmapped}
